@@ -1,0 +1,171 @@
+-- The bench cases of document 01 that are marked P, in one list, and the theorem that the definitions give each its answer.
+-- Assumes nothing.
+use mathlib.Core.Path.{_≡_, refl}
+use mathlib.Core.List.{List, [], _∷_, map, getLastD}
+use mathlib.Core.Option.{Option·getD, Option·elim, bind, orElse}
+use Prim.Native.Nat.{ℕ}
+use lib.Count.{ones}
+use lib.IntN.{ℤ, pos, negsuc}
+use lib.ListN.{length, replicate}
+use Rattle.lists.specs.Lists as ByIndex
+use Rattle.integers.specs.Integers
+use Rattle.refusal.specs.declared.Refusal.the-variants.{Lists, NoPath, ForcedPosition, NoTail}
+use Rattle.refusal.specs.declared.Reply.the-variants.{Done, Refused}
+use Rattle.refusal.specs.Refusals
+use Rattle.trellis.specs.Table
+use Rattle.trellis.specs.Table.{Table}
+use Rattle.trellis.specs.Path
+use Rattle.trellis.specs.Limits
+use Rattle.trellis.specs.Outcome
+use Rattle.siso.specs.Decode as Lone
+use Rattle.turbo.specs.House
+use Rattle.turbo.specs.House.{house}
+use Rattle.turbo.specs.Interleaver
+use Rattle.turbo.specs.Frame
+use Rattle.turbo.specs.Frame.{Frame}
+use Rattle.turbo.specs.Coder
+use Rattle.turbo.specs.Decoder
+use Rattle.sheet.specs.Text
+use Rattle.sheet.specs.Text.{bytes}
+use Rattle.sheet.specs.Decimal
+use Rattle.sheet.specs.Rows
+use Rattle.sheet.specs.Sheet
+
+-- what is given, and the answer that document 01 has for it
+pub data Case : Type 0 where
+  lonePass : Lone.Call → Lone.Lent → Lone.Result → Case
+  sheet : List ℕ → List ℕ → Case
+  interleaved : List ℕ → List ℕ → List ℕ → Case
+  coderPath : Frame → List ℕ → List ℕ → List ℕ → Case
+  coded : Coder.EncodeCall → List ℕ → Coder.EncodeResult → Case
+  decoded : Decoder.DecodeCall → Decoder.DecodeLent → Decoder.DecodeResult → Case
+  frameSize : Frame → ℕ → Case
+
+-- the same case with the definitions' answer
+unfoldable pub computed : Case → Case
+unfolding
+    bind Option·elim orElse getLastD ones
+    ByIndex.listed ByIndex.joined ByIndex.keep ByIndex.every ByIndex.any ByIndex.count ByIndex.isEmpty ByIndex.found ByIndex.upto
+    Integers.maxℤ Integers.minℤ Integers.inside Integers.limited Integers.half Integers.parity
+    Refusals.told Refusals.numberOf Refusals.check Refusals._then_ Refusals.after Refusals.cleared
+    Limits.sectionsFit Limits.channelFits Limits.aprioriFits
+    Outcome.larger Outcome.greatest Outcome.best Outcome.outcomeOf Outcome.outcome Outcome.pathless Outcome.forced Outcome.mark Outcome.margin Outcome.intrinsic Outcome.extrinsic Outcome.position Outcome.marks Outcome.margins Outcome.extrinsics
+    Path.aprioriAt Path.channelAt Path.signed Path.wordMetric Path.branchMetric Path.metricFrom Path.finish Path.metric Path.allBits Path.homeward Path.paths Path.class
+    Table.nextState Table.word Table.output Table.systematic Table.shaped Table.branched
+    Lone.listsFit Lone.reply Lone.decode
+    Coder.tailFrom Coder.withTail Coder.parityAt Coder.sectionAt Coder.places Coder.sentFor Coder.encodeListsFit Coder.encodeReply Coder.encode
+    Decoder.handOver Decoder.decided Decoder.channel1 Decoder.channel2 Decoder.pass Decoder.pass1 Decoder.pass2 Decoder.handOn Decoder.handBack Decoder.iteration Decoder.prior Decoder.lastPass Decoder.decodeListsFit Decoder.decodeReply Decoder.decode
+    Frame.sections Frame.sizesFit Frame.masksFit Frame.codes Frame.maskAt Frame.maskFlags Frame.onesTo Frame.frameLength Frame.flags Frame.puncture Frame.spread
+    House.houseParity House.houseNext House.house
+    Interleaver.permutes Interleaver.place Interleaver.interleave Interleaver.deinterleave
+    Decimal.numeral Decimal.natural Decimal.opposite Decimal.integer Decimal.digitsIn Decimal.digits Decimal.decimal
+    Rows.fieldAt Rows.dash Rows.valueOrUnsent Rows.starts Rows.messageRow Rows.tailRow
+    Sheet.linesOf Sheet.lastPiece Sheet.rowCount Sheet.messageBits Sheet.lineFits Sheet.faultFrom Sheet.firstFault Sheet.textReply Sheet.messageAt Sheet.tailAt Sheet.valuesOf Sheet.callOf Sheet.lentFor Sheet.refusalText Sheet.resultLine Sheet.resultText Sheet.printed Sheet.answer
+    Text.bytes Text.onFirst Text.cut Text.same
+computed (lonePass c l r) = lonePass c l (Lone.decode c l)
+computed (sheet s a) = sheet s (Sheet.answer s)
+computed (interleaved p xs ys) = interleaved p xs (Interleaver.interleave 0 p xs)
+computed (coderPath f m xs ps) =
+    let all = Option·getD (Coder.withTail f m) [] in
+    coderPath f m all (ByIndex.listed (Coder.parityAt (f .table) all) (length all))
+computed (coded c l r) = coded c l (Coder.encode c l)
+computed (decoded c l r) = decoded c l (Decoder.decode c l)
+computed (frameSize f n) = frameSize f (Frame.frameLength f)
+
+-- ---- what the cases share
+
+-- lists as they are lent, and as a refusal leaves them
+untouched : ℕ → List ℤ → Lone.Lent
+untouched n work = record { marks = replicate n 77; margins = replicate n (pos 77); extrinsics = replicate n (pos 77); work = work }
+
+zeros : ℕ → List ℤ
+zeros n = replicate n (pos 0)
+
+-- P3, P4: two states, next state = input, one output = input
+follower : Table
+follower = record { states = 2; outputs = 1; next = 0 ∷ 1 ∷ 0 ∷ 1 ∷ []; words = 0 ∷ 1 ∷ 0 ∷ 1 ∷ [] }
+
+-- P5: both branches of both states to state 1
+trap : Table
+trap = record { states = 2; outputs = 1; next = 1 ∷ 1 ∷ 1 ∷ 1 ∷ []; words = 0 ∷ 1 ∷ 0 ∷ 1 ∷ [] }
+
+-- a frame of the house code in message order
+plainFrame : ℕ → ℕ → List ℕ → List ℕ → Frame
+plainFrame k t pattern masks = record { table = house; bits = k; tail = t; pattern = pattern; masks = masks }
+
+lentTo : ℕ → List ℤ → Decoder.DecodeLent
+lentTo k work = record { bits = replicate k 77; margins = replicate k (pos 77); extrinsics = replicate k (pos 77); work = work }
+
+-- ---- the cases
+
+pub cases : List Case
+cases =
+    -- P1
+    lonePass
+    (record {
+      table = house;
+      sections = 4;
+      values = record {
+        channel = pos 4 ∷ negsuc 0 ∷ negsuc 1 ∷ pos 2 ∷ pos 1 ∷ negsuc 4 ∷ pos 3 ∷ pos 6 ∷ [];
+        apriori = zeros 4;
+      };
+    })
+    (untouched 4 (replicate 20 (pos 77)))
+    (record {
+      reply = Done;
+      lists = record {
+        marks = 2 ∷ 2 ∷ 2 ∷ 2 ∷ [];
+        margins = negsuc 0 ∷ pos 1 ∷ pos 1 ∷ pos 10 ∷ [];
+        extrinsics = negsuc 4 ∷ pos 3 ∷ pos 0 ∷ pos 7 ∷ [];
+        work = zeros 20;
+      };
+    })
+    -- P2
+    ∷ sheet
+    (bytes "at to sys par par2 sys2\n0 0 -3 5 - -\n1 - 2 -4 1 -6\n2 - 1 7 3 4\n")
+    (bytes "at bit margin extrinsic\n0 1 13 1\n")
+    -- P3
+    ∷ lonePass
+    (record { table = follower; sections = 2; values = record { channel = pos 3 ∷ negsuc 6 ∷ []; apriori = pos 1 ∷ pos 0 ∷ [] } })
+    (untouched 2 (replicate 6 (pos 77)))
+    (record {
+      reply = Done;
+      lists = record { marks = 2 ∷ 0 ∷ []; margins = pos 4 ∷ pos 0 ∷ []; extrinsics = pos 0 ∷ pos 0 ∷ []; work = zeros 6 };
+    })
+    -- P4
+    ∷ lonePass
+    (record { table = follower; sections = 1; values = record { channel = pos 3 ∷ []; apriori = pos 1 ∷ [] } })
+    (untouched 1 (replicate 4 (pos 77)))
+    (record { reply = Done; lists = record { marks = 0 ∷ []; margins = pos 0 ∷ []; extrinsics = pos 0 ∷ []; work = zeros 4 } })
+    -- P5
+    ∷ lonePass
+    (record { table = trap; sections = 2; values = record { channel = pos 3 ∷ negsuc 6 ∷ []; apriori = pos 1 ∷ pos 0 ∷ [] } })
+    (untouched 2 (replicate 6 (pos 77)))
+    (record { reply = Refused NoPath; lists = untouched 2 (zeros 6) })
+    -- P6
+    ∷ interleaved
+    (0 ∷ 3 ∷ 6 ∷ 1 ∷ 4 ∷ 8 ∷ 2 ∷ 5 ∷ 7 ∷ [])
+    (2 ∷ 4 ∷ 3 ∷ 1 ∷ 8 ∷ 5 ∷ 9 ∷ 6 ∷ 0 ∷ [])
+    (2 ∷ 1 ∷ 9 ∷ 4 ∷ 8 ∷ 0 ∷ 3 ∷ 5 ∷ 6 ∷ [])
+    -- P7
+    ∷ coderPath (plainFrame 1 2 (0 ∷ []) (7 ∷ [])) (1 ∷ []) (1 ∷ 1 ∷ 1 ∷ []) (1 ∷ 0 ∷ 1 ∷ [])
+    -- P8
+    ∷ coded
+    (record { frame = plainFrame 1 0 (0 ∷ []) (7 ∷ []); message = 1 ∷ [] })
+    (replicate 3 77)
+    (record { reply = Refused NoTail; sent = replicate 3 77 })
+    ∷ decoded
+    (record { frame = plainFrame 1 0 (0 ∷ []) (7 ∷ []); received = zeros 3; iterations = 1 })
+    (lentTo 1 (replicate 8 (pos 77)))
+    (record { reply = Refused ForcedPosition; lists = lentTo 1 (zeros 8) })
+    -- P9
+    ∷ frameSize (plainFrame 3 2 (0 ∷ 1 ∷ 2 ∷ []) (6 ∷ 5 ∷ [])) 14
+    ∷ decoded
+    (record { frame = plainFrame 3 2 (0 ∷ 1 ∷ 2 ∷ []) (6 ∷ 5 ∷ []); received = zeros 13; iterations = 1 })
+    (lentTo 3 (replicate 24 (pos 77)))
+    (record { reply = Refused Lists; lists = lentTo 3 (replicate 24 (pos 77)) })
+    ∷ []
+
+pub cases-hold : map computed cases ≡ cases
+unfolding computed cases untouched zeros follower trap plainFrame lentTo
+cases-hold = refl

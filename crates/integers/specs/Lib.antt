@@ -1,0 +1,5 @@
+pub mod Integers
+pub mod Parts
+pub mod Difference
+pub mod Linear
+pub mod Laws

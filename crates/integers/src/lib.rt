@@ -1,0 +1,1 @@
+// Linear arithmetic over the integers, maxima, limits, halves and parity. Definitions and laws only.

@@ -1,0 +1,5 @@
+pub mod Lists
+pub mod Keep
+pub mod Tests
+pub mod Listed
+pub mod Every

@@ -1,0 +1,63 @@
+-- Refusals: the number and the line of each, the first that applies, and what a reply leaves of the lists that were lent
+-- (document 01, "Refused frames and calls").
+-- Assumes nothing.
+use mathlib.Core.Bool.{Bool, true, false, cond, _||_}
+use mathlib.Core.List.{List}
+use Prim.Native.Nat.{ℕ}
+use lib.Dec.{eqb}
+use lib.IntN.{ℤ, pos}
+use lib.ListN.{length, replicate}
+use Rattle.refusal.specs.declared.Refusal.{Refusal}
+use Rattle.refusal.specs.declared.Refusal.the-variants.{Text, Shape, Branch, Length, Lists, Value, Bit, Pattern, Mask, Iterations, Coder, NoPath, ForcedPosition, NoTail}
+use Rattle.refusal.specs.declared.Reply.{Reply}
+use Rattle.refusal.specs.declared.Reply.the-variants.{Done, Refused}
+
+-- a refusal as it is told: its number, and the line of the sheet
+pub record Told : Type 0 where
+  pub number : ℕ
+  pub line : ℕ
+
+-- the line is 0 for every number but 1
+abbrev plain : ℕ → Told
+plain n = record { number = n; line = 0 }
+
+unfoldable pub told : Refusal → Told
+told (Text line) = record { number = 1; line = line }
+told Shape = plain 2
+told Branch = plain 3
+told Length = plain 4
+told Lists = plain 5
+told Value = plain 6
+told Bit = plain 7
+told Pattern = plain 8
+told Mask = plain 9
+told Iterations = plain 10
+told Coder = plain 11
+told NoPath = plain 12
+told ForcedPosition = plain 13
+told NoTail = plain 14
+
+-- the number of a reply, 0 where the call is done
+unfoldable pub numberOf : Reply → ℕ
+numberOf Done = 0
+numberOf (Refused r) = told r .number
+
+-- a check: refused by r unless the test holds
+unfoldable pub check : Bool → Refusal → Reply
+check true r = Done
+check false r = Refused r
+
+-- checks in turn: the first that refuses decides
+infixr 20 _then_
+unfoldable pub _then_ : Reply → Reply → Reply
+Done then y = y
+(Refused r) then y = Refused r
+
+-- a result list: the new one where the call is done, and as it was where it is refused
+unfoldable pub after : {A : Type 0} → Reply → A → A → A
+after Done new old = new
+after (Refused r) new old = old
+
+-- the working list: all zeros after success, 12 and 13, and as it was after the others
+unfoldable pub cleared : Reply → List ℤ → List ℤ
+cleared r work = cond (eqb (numberOf r) 0 || eqb (numberOf r) 12 || eqb (numberOf r) 13) (replicate (length work) (pos 0)) work

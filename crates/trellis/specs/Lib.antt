@@ -1,0 +1,5 @@
+pub mod Table
+pub mod Path
+pub mod Outcome
+pub mod Limits
+pub mod Examples

@@ -1,0 +1,75 @@
+-- A frame: its sizes, its masks, the places of its values and which of them are sent (document 01, "Frame").
+-- Assumes nothing.
+use mathlib.Core.Bool.{Bool, true, false, _&&_}
+use mathlib.Core.List.{List, [], _∷_, _++_}
+use Prim.Native.Nat.{ℕ, zero, suc, _+_, _*_, _/_, _%_}
+use lib.Count.{ones}
+use lib.Dec.{eqb, leb, ltb}
+use lib.ListN.{length, getD, replicate}
+use Rattle.lists.specs.Lists.{joined, every}
+use Rattle.trellis.specs.Limits.{sectionLimit}
+use Rattle.trellis.specs.Table.{Table, systematic}
+
+-- what coder and decoder agree on: the table, K message bits, T tail sections, the pattern and the masks
+pub record Frame : Type 0 where
+  pub table : Table
+  pub bits : ℕ
+  pub tail : ℕ
+  pub pattern : List ℕ
+  pub masks : List ℕ
+
+-- the sections of each coder: K + T
+unfoldable pub sections : Frame → ℕ
+sections f = f .bits + f .tail
+
+-- K is at least 1, T is 0..4 and K + T at most 4,096 (not so: 4)
+unfoldable pub sizesFit : Frame → Bool
+sizesFit f = leb 1 (f .bits) && leb (f .tail) 4 && leb (sections f) sectionLimit
+
+-- the period, the length of the mask list, is 1..16, and a mask is below 8 (not so: 9)
+unfoldable pub masksFit : Frame → Bool
+masksFit f = leb 1 (length (f .masks)) && leb (length (f .masks)) 16 && every (λ m. ltb m 8) (f .masks)
+
+-- the table is systematic with two outputs (not so: 11)
+unfoldable pub codes : Frame → Bool
+codes f = systematic (f .table) && eqb (f .table .outputs) 2
+
+-- ---- masks
+
+-- the mask at position k: the masks repeat
+unfoldable pub maskAt : Frame → ℕ → ℕ
+maskAt f k = getD (f .masks) (k % length (f .masks)) 0
+
+-- a mask is 4·systematic + 2·parity 1 + parity 2, a bit 1 meaning sent
+unfoldable pub maskFlags : ℕ → List Bool
+maskFlags m = eqb (m / 4 % 2) 1 ∷ eqb (m / 2 % 2) 1 ∷ eqb (m % 2) 1 ∷ []
+
+-- the frame's length: over the K positions, the number of ones in its masks, plus 4·T
+unfoldable pub onesTo : Frame → ℕ → ℕ
+onesTo f zero = 0
+onesTo f (suc k) = onesTo f k + ones (maskAt f k)
+
+unfoldable pub frameLength : Frame → ℕ
+frameLength f = onesTo f (f .bits) + 4 * f .tail
+
+-- ---- places: systematic, parity 1 and parity 2 of each position, then tail 1, then tail 2, each systematic then parity, section by section
+
+-- which places are sent: those that the masks say, and all of both tails
+unfoldable pub flags : Frame → List Bool
+flags f = joined (λ k. maskFlags (maskAt f k)) (f .bits) ++ replicate (4 * f .tail) true
+
+module _ {A : Type 0} where
+  -- the values of the places that are sent, in order
+  unfoldable pub puncture : List Bool → List A → List A
+  puncture [] xs = []
+  puncture (true ∷ fs) [] = []
+  puncture (true ∷ fs) (x ∷ xs) = x ∷ puncture fs xs
+  puncture (false ∷ fs) [] = []
+  puncture (false ∷ fs) (x ∷ xs) = puncture fs xs
+
+  -- the sent values back in their places, and d in every other
+  unfoldable pub spread : A → List Bool → List A → List A
+  spread d [] xs = []
+  spread d (true ∷ fs) [] = d ∷ spread d fs []
+  spread d (true ∷ fs) (x ∷ xs) = x ∷ spread d fs xs
+  spread d (false ∷ fs) xs = d ∷ spread d fs xs
