@@ -49,7 +49,7 @@ unfolding
     Integers.maxℤ Integers.minℤ Integers.inside Integers.limited Integers.half Integers.parity
     Refusals.told Refusals.numberOf Refusals.check Refusals._then_ Refusals.after Refusals.cleared
     Limits.sectionsFit Limits.channelFits Limits.aprioriFits
-    Outcome.larger Outcome.greatest Outcome.best Outcome.outcomeOf Outcome.outcome Outcome.pathless Outcome.forced Outcome.mark Outcome.margin Outcome.intrinsic Outcome.extrinsic Outcome.position Outcome.marks Outcome.margins Outcome.extrinsics
+    Outcome.larger Outcome.greatest Outcome.best Outcome.outcomeOf Outcome.outcome Outcome.pathless Outcome.forced Outcome.mark Outcome.margin Outcome.systematicAt Outcome.intrinsic Outcome.extrinsic Outcome.positionOf Outcome.position Outcome.marks Outcome.margins Outcome.extrinsics
     Path.aprioriAt Path.channelAt Path.signed Path.wordMetric Path.branchMetric Path.metricFrom Path.finish Path.metric Path.allBits Path.homeward Path.paths Path.class
     Table.nextState Table.word Table.output Table.systematic Table.shaped Table.branched
     Lone.listsFit Lone.reply Lone.decode

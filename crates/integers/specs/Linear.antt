@@ -6,7 +6,7 @@
 -- Assumes nothing.
 use mathlib.Core.Path.{_≡_, refl, sym, ap, _∙_}
 use mathlib.Core.Logic.{_↔_, Iff·rfl}
-use mathlib.Core.Bool.{Bool, true, false}
+use mathlib.Core.Bool.{true, false}
 use Prim.Native.Nat.{ℕ, _+_, _-_, _%_, _^_, _≤_, _<_}
 use native.Mathlib.Omega.{arith}
 use lib.IntN.{ℤ, pos, negsuc, negℤ, subℕ, _+ℤ_, _*ℤ_, natAbs}
@@ -15,21 +15,10 @@ use mir.Syntax.{Width, w16, w32}
 use mir.Val.{SFits, hbits, toZ, ofZ}
 use mir.Facts.{toZ-ofZ, sfits-widen}
 use Rattle.integers.specs.Integers.{maxℤ, minℤ, Within, inside, limited, half, parity}
-use Rattle.integers.specs.Parts.{
-  above,
-  below,
-  abs-parts,
-  lt-test,
-  le-test,
-  inside-test,
-  lt-parts,
-  parts-lt,
-  le-parts,
-  parts-le,
-  eq-parts,
-  parts-eq,
-}
-use Rattle.integers.specs.Difference.{diff, diff-parts, above-diff, below-diff, as-diff, add-diff, neg-diff, max-diff, min-diff, mul-diff, quot-diff}
+use Rattle.integers.specs.Parts.{above, below, abs-parts, lt-test, le-test, inside-test}
+use Rattle.integers.specs.Parts.{lt-parts, parts-lt, le-parts, parts-le, eq-parts, parts-eq}
+use Rattle.integers.specs.Difference.{diff, diff-parts, above-diff, below-diff, as-diff}
+use Rattle.integers.specs.Difference.{add-diff, neg-diff, max-diff, min-diff, mul-diff, quot-diff}
 
 -- ---- marks: each is what it marks, shut, so that no rule fits it twice
 

@@ -1,13 +1,15 @@
--- Laws of `keep`: over an append, a second test and a map, of a test that never passes, and what it holds.
+-- Laws of `keep`: over an append, a second test and a map, of a test that never passes, and what it holds. What an empty list says.
 -- Assumes nothing.
 use mathlib.Core.Path.{_≡_, refl, sym, ap, _∙_}
-use mathlib.Core.Logic.{_↔_, ⊎-elim}
-use mathlib.Core.Bool.{Bool, true, false, cond, _&&_}
-use mathlib.Core.List.{List, [], _∷_, _++_, map, List·Memᴰ, List·Memᴰ·head, List·Memᴰ·tail, List·Memᴰ·cases-cons, List·Memᴰ·not-nil}
+use mathlib.Core.HLevel.{⊥-prop}
+use mathlib.Core.Logic.{_↔_, ⊎-elim, ∥∥₁-elim}
+use mathlib.Core.Bool.{Bool, true, false, cond, _&&_, _||_, and-false, false≢true}
+use mathlib.Core.List.{List, [], _∷_, _++_, map, cons≢nil, eq-nil-iff-forall-not-mem}
+use mathlib.Core.List.{List·Memᴰ, List·Memᴰ·head, List·Memᴰ·tail, List·Memᴰ·cases-cons, List·Memᴰ·not-nil}
 use Prim.Native.Nat.{ℕ}
 use lib.Dec.{eqb}
 use borrow.Author.Tests.{eqb-true, eq-eqb}
-use Rattle.lists.specs.Lists.{keep}
+use Rattle.lists.specs.Lists.{keep, isEmpty}
 
 module _ {A : Type 0} (f : A → Bool) where
   pub keep-append : (xs ys : List A) → keep f (xs ++ ys) ≡ keep f xs ++ keep f ys
@@ -40,9 +42,16 @@ module _ {A : Type 0} (f : A → Bool) where
   in-keep→ [] m = absurd (List·Memᴰ·not-nil m)
   in-keep→ (y ∷ ys) {x} m = go (f y) refl (λ i. in-keep→ ys i) m
     where
-      go : (c : Bool) → f y ≡ c → (List·Memᴰ x (keep f ys) → List·Memᴰ x ys × (f x ≡ true)) → List·Memᴰ x (cond c (y ∷ keep f ys) (keep f ys)) → List·Memᴰ x (y ∷ ys) × (f x ≡ true)
-      go true e below i = ⊎-elim (λ (q : x ≡ y). (List·Memᴰ·head q, ap f q ∙ e)) (λ (j : List·Memᴰ x (keep f ys)). (List·Memᴰ·tail (below j .0), below j .1)) (List·Memᴰ·cases-cons i)
-      go false e below i = (List·Memᴰ·tail (below i .0), below i .1)
+      Found : List A → Type 0
+      Found l = List·Memᴰ x l × (f x ≡ true)
+
+      go : (c : Bool) → f y ≡ c → (List·Memᴰ x (keep f ys) → Found ys) → List·Memᴰ x (cond c (y ∷ keep f ys) (keep f ys)) → Found (y ∷ ys)
+      go true e found i =
+          ⊎-elim
+          (λ (q : x ≡ y). (List·Memᴰ·head q, ap f q ∙ e))
+          (λ (j : List·Memᴰ x (keep f ys)). (List·Memᴰ·tail (found j .0), found j .1))
+          (List·Memᴰ·cases-cons i)
+      go false e found i = (List·Memᴰ·tail (found i .0), found i .1)
 
   in-keep← : {xs : List A} {x : A} → List·Memᴰ x xs → f x ≡ true → List·Memᴰ x (keep f xs)
   unfolding keep
@@ -74,3 +83,27 @@ keep-map {A} f g (x ∷ xs) = rw (keep-map f g xs) (go (f (g x)))
     go : (c : Bool) → cond c (g x ∷ map g kept) (map g kept) ≡ map g (cond c (x ∷ kept) kept)
     go true = refl
     go false = refl
+
+-- ---- an empty list
+
+module _ {A : Type 0} where
+  pub empty-exactly : (xs : List A) → (xs ≡ []) ↔ ((x : A) → ¬ List·Memᴰ x xs)
+  empty-exactly xs =
+      (λ e x m. eq-nil-iff-forall-not-mem .0 e x ∣ m ∣₁, λ h. eq-nil-iff-forall-not-mem .1 (λ x m. ∥∥₁-elim m ⊥-prop (h x)))
+
+  pub isEmpty-exactly : (xs : List A) → (isEmpty xs ≡ true) ↔ (xs ≡ [])
+  unfolding isEmpty
+  isEmpty-exactly [] = (λ e. refl, λ e. refl)
+  isEmpty-exactly (x ∷ xs) = (λ e. absurd (false≢true e), λ e. absurd (cons≢nil e))
+
+  -- where every entry passes one of two tests, a list is empty if neither test keeps anything
+  pub isEmpty-by-tests :
+      (f g : A → Bool) (xs : List A) → ((x : A) → List·Memᴰ x xs → (f x || g x) ≡ true) → isEmpty xs ≡ (isEmpty (keep f xs) && isEmpty (keep g xs))
+  unfolding isEmpty keep
+  isEmpty-by-tests f g [] h = refl
+  isEmpty-by-tests f g (x ∷ xs) h = go (f x) (g x) (h x (List·Memᴰ·head refl))
+    where
+      go : (c d : Bool) → (c || d) ≡ true → false ≡ (isEmpty (cond c (x ∷ keep f xs) (keep f xs)) && isEmpty (cond d (x ∷ keep g xs) (keep g xs)))
+      go true d e = refl
+      go false true e = sym (and-false (isEmpty (keep f xs)))
+      go false false e = absurd (false≢true e)

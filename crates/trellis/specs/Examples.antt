@@ -9,7 +9,7 @@ use Rattle.integers.specs.Integers.{maxℤ, half}
 use Rattle.lists.specs.Lists.{listed, keep, every, upto}
 use Rattle.trellis.specs.Table.{Table, nextState, word, output, systematic}
 use Rattle.trellis.specs.Path.{Values, aprioriAt, channelAt, signed, wordMetric, branchMetric, metricFrom, finish, metric, allBits, homeward, paths, class}
-use Rattle.trellis.specs.Outcome.{larger, greatest, best, outcomeOf, outcome, mark, margin, intrinsic, extrinsic, position, marks, margins, extrinsics}
+use Rattle.trellis.specs.Outcome.{larger, greatest, best, outcomeOf, outcome, mark, margin, systematicAt, intrinsic, extrinsic, positionOf, position, marks, margins, extrinsics}
 
 -- the three lists of a pass of n sections
 record Written : Type 0 where
@@ -18,7 +18,7 @@ record Written : Type 0 where
   extrinsics : List ℤ
 
 unfoldable written : Table → Values → ℕ → Written
-unfolding marks margins extrinsics position outcome best class paths homeward metric branchMetric intrinsic listed nextState word output systematic aprioriAt channelAt signed wordMetric metricFrom finish allBits larger greatest outcomeOf mark margin extrinsic keep every upto maxℤ half Option·elim
+unfolding marks margins extrinsics position positionOf outcome best class paths homeward metric branchMetric systematicAt intrinsic listed nextState word output systematic aprioriAt channelAt signed wordMetric metricFrom finish allBits larger greatest outcomeOf mark margin extrinsic keep every upto maxℤ half Option·elim
 written t v n = record { marks = marks t v n n; margins = margins t v n n; extrinsics = extrinsics t v n n }
 
 -- document 001, Fig. 2: next states 0 0 1 1 with bit 0 and 2 2 3 3 with bit 1; the first output is u⊕u1⊕u2, the second u⊕u2

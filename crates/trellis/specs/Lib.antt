@@ -3,3 +3,16 @@ pub mod Path
 pub mod Outcome
 pub mod Limits
 pub mod Examples
+pub mod Listing
+pub mod Signs
+pub mod Parity
+pub mod Branches
+pub mod Agreement
+pub mod Sizes
+pub mod MaxPlus
+pub mod Greatest
+pub mod Over
+pub mod Sweeps
+pub mod Recursion
+pub mod Emptiness
+pub mod RightSigned

@@ -60,18 +60,25 @@ unfoldable pub margin : Outcome → ℤ
 margin (Free m) = m
 margin (Forced b) = pos 0
 
--- the intrinsic part of a margin, which the pass was told: the a-priori value, and the channel value of output 1 if the table is systematic
+-- the channel value of output 1 if the table is systematic, and else 0
+unfoldable pub systematicAt : Table → Values → ℕ → ℤ
+systematicAt t v k = cond (systematic t) (channelAt t v k 0) (pos 0)
+
+-- the intrinsic part of a margin, which the pass was told: the a-priori value and the systematic value
 unfoldable pub intrinsic : Table → Values → ℕ → ℤ
-intrinsic t v k = aprioriAt v k +ℤ cond (systematic t) (channelAt t v k 0) (pos 0)
+intrinsic t v k = aprioriAt v k +ℤ systematicAt t v k
 
 -- the extrinsic: the margin without its intrinsic part; 0 beside a forced position's mark
 unfoldable pub extrinsic : ℤ → Outcome → ℤ
 extrinsic i (Free m) = m -ℤ i
 extrinsic i (Forced b) = pos 0
 
--- a position: its outcome and its extrinsic
+-- a position: its outcome, and its extrinsic beside it
+unfoldable pub positionOf : ℤ → Option Outcome → Option Position
+positionOf i o = Option·map (λ x. record { outcome = x; extrinsic = extrinsic i x }) o
+
 unfoldable pub position : Table → Values → ℕ → ℕ → Option Position
-position t v n k = Option·map (λ o. record { outcome = o; extrinsic = extrinsic (intrinsic t v k) o }) (outcome t v n k)
+position t v n k = positionOf (intrinsic t v k) (outcome t v n k)
 
 -- the lists of a pass, at its first m positions. (Where there is no path they stay unwritten, and 0 stands here.)
 unfoldable pub marks : Table → Values → ℕ → ℕ → List ℕ

@@ -30,14 +30,14 @@ signed (suc b) x = x
 
 -- ---- metrics
 
--- the part of the word w's first l outputs in the metric of section k
-unfoldable pub wordMetric : Table → Values → ℕ → ℕ → ℕ → ℤ
-wordMetric t v k w zero = pos 0
-wordMetric t v k w (suc l) = wordMetric t v k w l +ℤ signed (output w l) (channelAt t v k l)
+-- the part of the word w's first l outputs in the metric of a section with the channel values y
+unfoldable pub wordMetric : (ℕ → ℤ) → ℕ → ℕ → ℤ
+wordMetric y w zero = pos 0
+wordMetric y w (suc l) = wordMetric y w l +ℤ signed (output w l) (y l)
 
 -- the part of section k: sign × a-priori value, plus, for each output, sign × channel value
 unfoldable pub branchMetric : Table → Values → ℕ → ℕ → ℕ → ℤ
-branchMetric t v k s b = signed b (aprioriAt v k) +ℤ wordMetric t v k (word t s b) (t .outputs)
+branchMetric t v k s b = signed b (aprioriAt v k) +ℤ wordMetric (channelAt t v k) (word t s b) (t .outputs)
 
 -- the sum over the sections from section k and state s on, of the input bits p
 unfoldable pub metricFrom : Table → Values → ℕ → ℕ → List ℕ → ℤ
