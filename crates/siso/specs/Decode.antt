@@ -38,24 +38,31 @@ listsFit c l =
     && eqb (length (l .extrinsics)) n
     && eqb (length (l .work)) ((n + 1) * c .table .states)
 
--- the lowest number that applies, or done
-unfoldable pub reply : Call → Lent → Reply
-reply c l =
+-- the checks of what is lent: the lowest number but 12 that applies
+unfoldable pub checked : Call → Lent → Reply
+checked c l =
     check (shaped (c .table)) Shape
     then check (branched (c .table)) Branch
     then check (sectionsFit (c .sections)) Length
     then check (listsFit c l) Lists
     then check (channelFits (c .values .channel) && aprioriFits (c .values .apriori)) Value
-    then check (not (pathless (c .table) (c .sections))) NoPath
+
+-- there is a path (not so: 12)
+unfoldable pub walked : Call → Reply
+walked c = check (not (pathless (c .table) (c .sections))) NoPath
+
+-- the lowest number that applies, or done
+unfoldable pub reply : Call → Lent → Reply
+reply c l = checked c l then walked c
 
 -- the reply, and every list as the decoder leaves it
 pub record Result : Type 0 where
   pub reply : Reply
   pub lists : Lent
 
-unfoldable pub decode : Call → Lent → Result
-decode c l =
-    let r = reply c l in
+-- what a reply leaves of the lists
+unfoldable pub settled : Reply → Call → Lent → Result
+settled r c l =
     let n = c .sections in
     record {
       reply = r;
@@ -66,3 +73,6 @@ decode c l =
         work = cleared r (l .work);
       };
     }
+
+unfoldable pub decode : Call → Lent → Result
+decode c l = settled (reply c l) c l
