@@ -256,3 +256,7 @@ pub ruleset plain = (toZ-ofZ, fits-of, widen)
 -- a test of equality in the code tells of the bits
 pub same-bits : {w : Width} {a b : ℤ} → SFits w a → SFits w b → ofZ w a ≡ ofZ w b → a ≡ b
 same-bits {w} f g e = sym (toZ-ofZ f) ∙ ap (toZ w) e ∙ toZ-ofZ g
+
+-- a 16-bit value that went through a 32-bit local
+pub read-back : {z : ℤ} → SFits w16 z → toZ w32 (ofZ w32 (toZ w16 (ofZ w16 z))) ≡ z
+read-back f = rw (toZ-ofZ f) (toZ-ofZ (widen f))

@@ -60,4 +60,5 @@ after (Refused r) new old = old
 
 -- the working list: all zeros after success, 12 and 13, and as it was after the others
 unfoldable pub cleared : Reply → List ℤ → List ℤ
-cleared r work = cond (eqb (numberOf r) 0 || eqb (numberOf r) 12 || eqb (numberOf r) 13) (replicate (length work) (pos 0)) work
+cleared Done work = replicate (length work) (pos 0)
+cleared (Refused r) work = cond (eqb (told r .number) 12 || eqb (told r .number) 13) (replicate (length work) (pos 0)) work

@@ -1,1 +1,59 @@
-// The lone decoder: one pass over a table that its caller gives. Its whole result is a definition of specs/.
+// The lone decoder: one pass over a table that its caller gives.
+ghost use mathlib.Core.Path.{_≡_};
+ghost use Rattle.siso.specs.Decode.{decode as decoded};
+ghost use Rattle.siso.specs.Lent.{callOf, lentOf, resultOf};
+
+mod checks;
+mod metric;
+mod position;
+mod section;
+mod sweep;
+
+use refusal::Refusal;
+use refusal::Reply;
+
+pub fn decode(
+    states: usize,
+    outputs: usize,
+    next: &[u8],
+    words: &[u8],
+    sections: usize,
+    channel: &[i16],
+    apriori: &[i16],
+    marks: &mut [u8],
+    margins: &mut [i32],
+    extrinsics: &mut [i32],
+    work: &mut [i32],
+) -> Reply
+    ensures { λ r. ⌜ resultOf r (now (marks .exit)) (now (margins .exit)) (now (extrinsics .exit)) (now (work .exit)) ≡ decoded (callOf states outputs (now (next .entry)) (now (words .entry)) sections (now (channel .entry)) (now (apriori .entry))) (lentOf (now (marks .entry)) (now (margins .entry)) (now (extrinsics .entry)) (now (work .entry))) ⌝ }
+{
+    let reply = checks::reply(
+        states,
+        outputs,
+        next,
+        words,
+        sections,
+        channel,
+        apriori,
+        marks,
+        margins,
+        extrinsics,
+        work,
+    );
+    if let Reply::Refused(_) = reply {
+        return reply;
+    }
+    sweep::run(
+        states,
+        outputs,
+        next,
+        words,
+        sections,
+        channel,
+        apriori,
+        marks,
+        margins,
+        extrinsics,
+        work,
+    )
+}

@@ -33,15 +33,17 @@ pub record Bounded (t : Table) (v : Values) (a c : ℕ) : Type 0 where
   pub apriori : (k : ℕ) → Within a (aprioriAt v k)
   pub channel : (k l : ℕ) → Within c (channelAt t v k l)
 
-module _ {t : Table} {v : Values} {a c : ℕ} (bounded : Bounded t v a c) where
-  word-within : (k w l : ℕ) → Within (l * c) (wordMetric (channelAt t v k) w l)
-  unfolding wordMetric
-  word-within k w zero = within-zero (0 * c)
-  word-within k w (suc l) = rw (suc-mul l c) (within-sum (word-within k w l) (signed-within (output w l) (bounded .channel k l)))
+-- the part of a word's first l outputs, where their values are within c
+pub word-within : {y : ℕ → ℤ} {c : ℕ} (w l : ℕ) → ((j : ℕ) → j < l → Within c (y j)) → Within (l * c) (wordMetric y w l)
+unfolding wordMetric
+word-within {c} w zero h = within-zero (0 * c)
+word-within {c} w (suc l) h =
+    rw (suc-mul l c) (within-sum (word-within w l (λ j k. h j (omega arith))) (signed-within (output w l) (h l (omega arith))))
 
-  pub branch-within : (k s b : ℕ) → Within (a + t .outputs * c) (branchMetric t v k s b)
-  unfolding branchMetric
-  branch-within k s b = within-sum (signed-within b (bounded .apriori k)) (word-within k (word t s b) (t .outputs))
+pub branch-within : {t : Table} {v : Values} {a c : ℕ} → Bounded t v a c → (k s b : ℕ) → Within (a + t .outputs * c) (branchMetric t v k s b)
+unfolding branchMetric
+branch-within {t} bounded k s b =
+    within-sum (signed-within b (bounded .apriori k)) (word-within (word t s b) (t .outputs) (λ l h. bounded .channel k l))
 
 -- ---- metrics that may not be there
 

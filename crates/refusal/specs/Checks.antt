@@ -1,0 +1,58 @@
+-- Laws of a check and of checks in turn: when they are done, and which refusal a chain of them gives.
+-- Assumes nothing.
+use mathlib.Core.Path.{_≡_, refl, sym, _∙_}
+use mathlib.Core.Logic.{_↔_}
+use mathlib.Core.Bool.{Bool, true, false, false≢true}
+use Prim.Native.Nat.{ℕ}
+use native.Mathlib.Omega.{arith}
+use Rattle.refusal.specs.declared.Refusal.{Refusal}
+use Rattle.refusal.specs.declared.Reply.{Reply}
+use Rattle.refusal.specs.declared.Reply.the-variants.{Done, Refused}
+use Rattle.refusal.specs.Refusals.{check, _then_}
+
+refused-is-not-done : {r : Refusal} → Refused r ≡ Done → ⊥
+refused-is-not-done e = let z : _≡_ {A = ℕ} 0 1 = cc in omega arith
+
+-- ---- done
+
+-- a check is done exactly where its test passes
+pub check-is-done : (b : Bool) (r : Refusal) → (check b r ≡ Done) ↔ (b ≡ true)
+unfolding check
+check-is-done true r = (λ e. refl, λ e. refl)
+check-is-done false r = (λ e. absurd (refused-is-not-done e), λ e. absurd (false≢true e))
+
+-- two in turn are done exactly where both are
+pub then-is-done : (x y : Reply) → ((x then y) ≡ Done) ↔ ((x ≡ Done) × (y ≡ Done))
+unfolding _then_
+then-is-done Done y = (λ e. (refl, e), λ e. e .1)
+then-is-done (Refused r) y = (λ e. absurd (refused-is-not-done e), λ e. e .0)
+
+-- a chain that is done: its first test passes, and the rest of it is done
+pub first-passed : (b : Bool) (r : Refusal) (rest : Reply) → (check b r then rest) ≡ Done → (b ≡ true) × (rest ≡ Done)
+first-passed b r rest e = let (x, y) = then-is-done (check b r) rest .0 e in (check-is-done b r .0 x, y)
+
+-- ---- the first refusal
+
+pub done-then : {x y : Reply} → x ≡ Done → (x then y) ≡ y
+unfolding _then_
+done-then e = rw e
+
+pub refused-then : {x : Reply} {r : Refusal} (y : Reply) → x ≡ Refused r → (x then y) ≡ Refused r
+unfolding _then_
+refused-then y e = rw e
+
+pub then-assoc : (x y z : Reply) → ((x then y) then z) ≡ (x then (y then z))
+unfolding _then_
+then-assoc Done y z = refl
+then-assoc (Refused r) y z = refl
+
+-- a chain from its front, as code goes through it: a test that fails decides, and one that passes leaves it to the rest
+pub fails : {b : Bool} {r : Refusal} → b ≡ false → Refused r ≡ check b r
+unfolding check
+fails e = rw e
+
+pub fails-first : {b : Bool} {r : Refusal} (rest : Reply) → b ≡ false → Refused r ≡ (check b r then rest)
+fails-first rest e = sym (refused-then rest (sym (fails e)))
+
+pub passes-first : {b : Bool} (r : Refusal) {x rest : Reply} → b ≡ true → x ≡ rest → x ≡ (check b r then rest)
+passes-first {b} r e f = f ∙ sym (done-then (check-is-done b r .1 e))

@@ -1,0 +1,46 @@
+-- What the code does to rows of metrics, and to any list: a row that nothing has reached, an entry written, and a list made entry by entry.
+-- Assumes nothing.
+use mathlib.Core.Path.{_≡_, refl, sym, ap, _∙_}
+use mathlib.Core.Bool.{Bool, true, false, cond}
+use mathlib.Core.List.{List}
+use mathlib.Core.Option.{none}
+use Prim.Native.Nat.{ℕ, zero, suc, _+_, _<_}
+use native.Mathlib.Omega.{arith}
+use lib.Dec.{eqb}
+use lib.ListN.{length, getD, set, replicate}
+use lib.Seq.{getD-set-same, getD-set-other}
+use borrow.Author.Count.{below-more}
+use borrow.Author.Tests.{eqb-true, eqb-false}
+use Rattle.trellis.specs.MaxPlus.{larger-none}
+use Rattle.trellis.specs.Outcome.{larger}
+use Rattle.siso.specs.declared.metric.Metric.{Metric}
+use Rattle.siso.specs.declared.metric.Metric.the-variants.{Unreached}
+use Rattle.siso.specs.Held.{there, row}
+
+-- a row that nothing has reached
+pub unreached : (n s : ℕ) → row (replicate n Unreached) s ≡ none
+unreached zero s = refl
+unreached (suc n) zero = refl
+unreached (suc n) (suc s) = unreached n s
+
+-- a list made entry by entry: what the entries below t tell, and what is written at t, those below t + 1 tell
+pub one-more :
+    {A B : Type 0} (h : A → B) {f : ℕ → B} (xs : List A) (t : ℕ) (x d : A)
+    → t < length xs → ((s : ℕ) → s < t → h (getD xs s d) ≡ f s) → h x ≡ f t
+    → (s : ℕ) → s < t + 1 → h (getD (set xs t x) s d) ≡ f s
+one-more h {f} xs t x d inside before here =
+    below-more
+    (λ s. h (getD (set xs t x) s d) ≡ f s)
+    t
+    (λ s l. ap h (getD-set-other xs t s x d (λ e. omega arith)) ∙ before s l)
+    (ap h (getD-set-same xs t x d inside) ∙ here)
+
+-- the larger of what state t has and of what it is offered, written there
+pub offered :
+    (m : List Metric) (t : ℕ) (x y : Metric) → t < length m → there y ≡ larger (row m t) (there x)
+    → (s : ℕ) → row (set m t y) s ≡ larger (row m s) (cond (eqb s t) (there x) none)
+offered m t x y inside e s = go (eqb s t) refl
+  where
+    go : (c : Bool) → eqb s t ≡ c → row (set m t y) s ≡ larger (row m s) (cond c (there x) none)
+    go true q = let i : s ≡ t = eqb-true s t q in rw (i, getD-set-same m t y Unreached inside) e
+    go false q = ap there (getD-set-other m t s y Unreached (eqb-false s t q)) ∙ sym (larger-none (row m s))

@@ -1,0 +1,70 @@
+-- `siso::checks::table_reply` goes through the table's two checks in turn: the shape, then the next states and the words.
+-- Assumes nothing.
+use mathlib.Core.Path.{_≡_, sym, _∙_}
+use mathlib.Core.Bool.{true, and-false}
+use borrow.Author.Needs.{needs}
+use borrow.Author.Tests.{not-true, not-false}
+use Rattle.refusal.specs.declared.Refusal.the-variants.{Shape, Branch}
+use Rattle.refusal.specs.Checks.{check-is-done, fails, fails-first, passes-first}
+use Rattle.lists.specs.Tests.{and-true}
+use Rattle.trellis.specs.Table.{Table, shaped, branched}
+use Rattle.trellis.specs.Branches.{shaped-is}
+use Rattle.siso.specs.Lent.{tableOf}
+use Rattle.siso.proofs.checks.table_reply.Statement.{statement}
+use Rattle.siso.proofs.checks.table_reply.Tie as tie
+
+table : tie.Start → Table
+table c = tableOf (c .args .states) (c .args .outputs) (c .args .next .now) (c .args .words .now)
+
+is-shaped : (c : tie.Else1) → shaped (table (c .before .before .before .before)) ≡ true
+unfolding table
+is-shaped c = sym (c .before .shaped .ensures) ∙ not-false _ (c .if1 .left)
+
+shaped-requires : tie.Need-shaped-requires
+shaped-requires c κs = search needs
+
+returns : tie.Need-returns
+returns c = fails-first _ (sym (c .before .shaped .ensures) ∙ not-true _ (c .if1 .taken))
+
+all-below-requires : tie.Need-all-below-requires
+all-below-requires c κs = search needs
+
+returns-2 : tie.Need-returns-2
+unfolding table branched
+returns-2 c =
+    let bad = sym (c .before .all-below .ensures) ∙ not-true _ (c .if2 .taken) in
+    passes-first Shape (is-shaped (c .before .before)) (fails (rw bad))
+
+word-count-requires : tie.Need-word-count-requires
+unfolding table
+word-count-requires c κs = let s = shaped-is _ (is-shaped (c .before .before)) in (s .some-output, s .most-outputs)
+
+all-below-requires-2 : tie.Need-all-below-requires-2
+all-below-requires-2 c κs = search needs
+
+returns-3 : tie.Need-returns-3
+unfolding table branched
+returns-3 c =
+    let bad = rw (c .before .before .word-count .ensures) at (sym (c .before .all-below2 .ensures) ∙ not-true _ (c .if3 .taken)) in
+    passes-first Shape (is-shaped (c .before .before .before .before .before)) (fails (rw (bad, and-false)))
+
+returns-4 : tie.Need-returns-4
+unfolding table branched
+returns-4 c =
+    let at = c .before .before .before in
+    let next = sym (at .before .all-below .ensures) ∙ not-false _ (at .if2 .left) in
+    let words = rw (c .before .before .word-count .ensures) at (sym (c .before .all-below2 .ensures) ∙ not-false _ (c .if3 .left)) in
+    passes-first Shape (is-shaped (at .before .before)) (sym (check-is-done _ Branch .1 (and-true next words)))
+
+pub table-reply-spec : {M : Type 1} → statement M
+table-reply-spec =
+    tie.close
+    (tie.spec
+    shaped-requires
+    returns
+    all-below-requires
+    returns-2
+    word-count-requires
+    all-below-requires-2
+    returns-3
+    returns-4)

@@ -1,0 +1,76 @@
+// A position's outcome and extrinsic from its two best metrics, and what is written of them.
+ghost use mathlib.Core.Option.{none, some};
+ghost use mathlib.Core.Path.{_≡_};
+ghost use Prim.Native.Nat.{_<_};
+ghost use lib.ListN.{length, set};
+ghost use Rattle.integers.specs.Integers.{Within};
+ghost use Rattle.trellis.specs.Outcome.{outcomeOf, positionOf, mark as markOf, margin as marginOf};
+ghost use Rattle.trellis.specs.Sizes.{Small};
+ghost use Rattle.siso.specs.Held.{there};
+use crate::metric::Metric;
+use trellis::Outcome;
+use trellis::Position;
+
+// The position, from the best metrics with bit 0 and with bit 1, one of which is there, and the intrinsic part of its margin.
+pub fn settled(zero: Metric, one: Metric, intrinsic: i32) -> Position
+    requires { ⌜ Small 100000000 (there zero) ⌝ }
+    requires { ⌜ Small 100000000 (there one) ⌝ }
+    requires { ⌜ Within 9214 intrinsic ⌝ }
+    requires { ⌜ (outcomeOf (there zero) (there one) ≡ none → ⊥) ⌝ }
+    ensures { λ r. ⌜ some r ≡ positionOf intrinsic (outcomeOf (there zero) (there one)) ⌝ }
+{
+    match one {
+        Metric::Unreached => Position {
+            outcome: Outcome::Forced(0),
+            extrinsic: 0,
+        },
+        Metric::At(y) => match zero {
+            Metric::Unreached => Position {
+                outcome: Outcome::Forced(1),
+                extrinsic: 0,
+            },
+            Metric::At(x) => {
+                let margin = (y - x) / 2;
+                Position {
+                    outcome: Outcome::Free(margin),
+                    extrinsic: margin - intrinsic,
+                }
+            }
+        },
+    }
+}
+
+// The mark: 2 for free, else the forced bit.
+fn mark(o: Outcome) -> u8
+    ensures { λ r. ⌜ r ≡ markOf o ⌝ }
+{
+    match o {
+        Outcome::Free(_) => 2,
+        Outcome::Forced(bit) => bit,
+    }
+}
+
+fn margin(o: Outcome) -> i32
+    ensures { λ r. ⌜ r ≡ marginOf o ⌝ }
+{
+    match o {
+        Outcome::Free(m) => m,
+        Outcome::Forced(_) => 0,
+    }
+}
+
+// Writes a position to the result lists.
+pub fn put(k: usize, p: Position, marks: &mut [u8], margins: &mut [i32], extrinsics: &mut [i32])
+    requires { ⌜ k < length (now marks) ⌝ }
+    requires { ⌜ k < length (now margins) ⌝ }
+    requires { ⌜ k < length (now extrinsics) ⌝ }
+    ensures { λ _. ⌜ now (marks .exit) ≡ set (now (marks .entry)) k (markOf (p .outcome)) ⌝ }
+    ensures { λ _. ⌜ now (margins .exit) ≡ set (now (margins .entry)) k (marginOf (p .outcome)) ⌝ }
+    ensures { λ _. ⌜ now (extrinsics .exit) ≡ set (now (extrinsics .entry)) k (p .extrinsic) ⌝ }
+{
+    let o = p.outcome;
+    marks[k] = mark(o);
+    margins[k] = margin(o);
+    let e = p.extrinsic;
+    extrinsics[k] = e;
+}
