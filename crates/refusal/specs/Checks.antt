@@ -10,7 +10,7 @@ use Rattle.refusal.specs.declared.Reply.{Reply}
 use Rattle.refusal.specs.declared.Reply.the-variants.{Done, Refused}
 use Rattle.refusal.specs.Refusals.{check, _then_}
 
-refused-is-not-done : {r : Refusal} → Refused r ≡ Done → ⊥
+pub refused-is-not-done : {r : Refusal} → Refused r ≡ Done → ⊥
 refused-is-not-done e = let z : _≡_ {A = ℕ} 0 1 = cc in omega arith
 
 -- ---- done

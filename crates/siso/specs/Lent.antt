@@ -1,22 +1,18 @@
 -- What the decoder is lent, as the definitions' call and lists; and what is known of them once the checks have passed.
 -- Assumes nothing.
 use mathlib.Core.Path.{_≡_}
-use mathlib.Core.Bool.{true, false}
+use mathlib.Core.Bool.{true}
 use mathlib.Core.List.{List}
-use mathlib.Core.Option.{Option}
 use Prim.Native.Nat.{ℕ, _+_, _*_, _<_, _≤_}
 use lib.IntN.{ℤ, pos}
 use lib.ListN.{length, getD}
-use Rattle.trellis.specs.Table.{Table, shaped, branched}
+use Rattle.trellis.specs.Table.{Table, tableOf, shaped, branched}
 use Rattle.trellis.specs.Path.{Values}
 use Rattle.trellis.specs.Limits.{sectionsFit, channelFits, aprioriFits}
 use Rattle.trellis.specs.Sweeps.{home, forward}
 use Rattle.refusal.specs.declared.Reply.{Reply}
 use Rattle.siso.specs.Decode.{Call, Lent, Result}
 use Rattle.siso.specs.Held.{there, metricOf}
-
-abbrev pub tableOf : ℕ → ℕ → List ℕ → List ℕ → Table
-tableOf states outputs next words = record { states = states; outputs = outputs; next = next; words = words }
 
 abbrev pub valuesOf : List ℤ → List ℤ → Values
 valuesOf channel apriori = record { channel = channel; apriori = apriori }

@@ -7,3 +7,4 @@ pub mod Gathered
 pub mod Steps
 pub mod Between
 pub mod Settled
+pub mod Margins

@@ -7,36 +7,17 @@ ghost use lib.IntN.{pos, _+ℤ_};
 ghost use lib.ListN.{length, replicate};
 ghost use Rattle.integers.specs.Integers.{Within};
 ghost use Rattle.lists.specs.Lists.{found};
-ghost use Rattle.trellis.specs.Table.{Table, systematic as systematicTable};
+ghost use Rattle.trellis.specs.Table.{tableOf, systematic as systematicTable};
 ghost use Rattle.trellis.specs.Outcome.{pathless, position, marks as marksOf, margins as marginsOf, extrinsics as extrinsicsOf};
 ghost use Rattle.trellis.specs.Sweeps.{home, forward as forwardRow};
 ghost use Rattle.siso.specs.Held.{there, row};
 ghost use Rattle.siso.specs.Between.{Between};
 ghost use Rattle.siso.specs.Decode.{walked, settled};
-ghost use Rattle.siso.specs.Lent.{tableOf, valuesOf, callOf, lentOf, resultOf, Pass, Forward};
+ghost use Rattle.siso.specs.Lent.{valuesOf, callOf, lentOf, resultOf, Pass, Forward};
 use crate::metric::Metric;
 use refusal::Refusal;
 use refusal::Reply;
 use trellis::Position;
-
-// Whether output 1 of every branch is its input bit.
-fn systematic(words: &[u8], states: usize) -> bool
-    requires { ⌜ length (now words) ≡ 2 * states ⌝ }
-    requires { ⌜ states ≤ 16 ⌝ }
-    ensures { λ r. ⌜ ((t : Table) → t .states ≡ states → t .words ≡ now (words .entry) → r ≡ systematicTable t) ⌝ }
-{
-    let mut s: usize = 0;
-    while s < states {
-        if words[2 * s] % 2 != 0 {
-            return false;
-        }
-        if words[2 * s + 1] % 2 != 1 {
-            return false;
-        }
-        s += 1;
-    }
-    true
-}
 
 // The forward metrics before every section and after the last, in the working list; and those after the last.
 fn forward(
@@ -133,7 +114,7 @@ fn backward(
     ensures { λ _. ⌜ now (margins .exit) ≡ marginsOf (tableOf states outputs (now (next .entry)) (now (words .entry))) (valuesOf (now (channel .entry)) (now (apriori .entry))) sections sections ⌝ }
     ensures { λ _. ⌜ now (extrinsics .exit) ≡ extrinsicsOf (tableOf states outputs (now (next .entry)) (now (words .entry))) (valuesOf (now (channel .entry)) (now (apriori .entry))) sections sections ⌝ }
 {
-    let sys = systematic(words, states);
+    let sys = trellis::is_systematic(states, outputs, next, words);
     let mut m = crate::metric::home();
     let mut left = sections;
     while 0 < left {

@@ -42,7 +42,7 @@ module _ (t : Table) (v : Values) where
   unfolding metric
   metric-parity {n} {p} {q} f g = from-parity 0 (p .start) (q .start) (p .bits) (q .bits) (f .bits .size ∙ sym (g .bits .size))
 
-  best-parity : (n k b c : ℕ) (m l : ℤ) → best t v n k b ≡ some m → best t v n k c ≡ some l → parity m ≡ parity l
+  pub best-parity : (n k b c : ℕ) (m l : ℤ) → best t v n k b ≡ some m → best t v n k c ≡ some l → parity m ≡ parity l
   best-parity n k b c m l e f =
       let x = best-is-some t v n k b m .0 e in
       let y = best-is-some t v n k c l .0 f in

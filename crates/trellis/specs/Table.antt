@@ -14,6 +14,10 @@ pub record Table : Type 0 where
   pub next : List ℕ
   pub words : List ℕ
 
+-- the same as one value, from what an entry is lent
+abbrev pub tableOf : ℕ → ℕ → List ℕ → List ℕ → Table
+tableOf states outputs next words = record { states = states; outputs = outputs; next = next; words = words }
+
 -- the next state and the word of the branch of state s and bit b
 unfoldable pub nextState : Table → ℕ → ℕ → ℕ
 nextState t s b = getD (t .next) (2 * s + b) 0

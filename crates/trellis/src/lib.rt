@@ -1,4 +1,10 @@
-// What a pass says of a position. Every path, metric and margin is a definition of specs/.
+// What a pass says of a position, and the checks of a table and of values. Every path, metric and margin is a definition of specs/.
+mod checks;
+
+pub use checks::all_below;
+pub use checks::all_inside;
+pub use checks::is_systematic;
+pub use checks::table_reply;
 
 // Free with its margin, or forced to a bit.
 pub enum Outcome {

@@ -11,13 +11,13 @@ use lib.ListN.{getD}
 use mir.Syntax.{w16}
 use mir.Val.{SFits}
 use Rattle.integers.specs.Linear.{plain, fits-of, widen}
-use Rattle.trellis.specs.Table.{Table}
+use Rattle.trellis.specs.Table.{Table, tableOf}
 use Rattle.trellis.specs.Path.{Values, aprioriAt}
 use Rattle.trellis.specs.Sweeps.{home, backward, backward-end}
 use Rattle.siso.specs.Between.{Between, back-asked, back-is}
 use Rattle.siso.specs.Gathered.{gathered, part-length, part-within}
 use Rattle.siso.specs.Held.{row}
-use Rattle.siso.specs.Lent.{tableOf, valuesOf, Pass}
+use Rattle.siso.specs.Lent.{valuesOf, Pass}
 use Rattle.siso.specs.Passed.{table-limits, few-sections}
 use Rattle.siso.specs.Steps.{Agree}
 use Rattle.siso.proofs.Places.{channel-place, work-place}
@@ -59,8 +59,8 @@ here c = omega arith
 
 -- ---- before the loop
 
-systematic-requires : tie.Need-systematic-requires Inv-loop μ-loop
-systematic-requires c κs = let limits = table-limits (c .before .before .before .pre .0) in (limits .words-length, limits .most-states)
+is-systematic-requires : tie.Need-is-systematic-requires Inv-loop μ-loop
+is-systematic-requires c κs = search needs
 
 home-requires : tie.Need-home-requires Inv-loop μ-loop
 home-requires c κs = search needs
@@ -126,7 +126,7 @@ settle-requires : tie.Need-settle-requires Inv-loop μ-loop
 settle-requires c κs =
     let in-loop = c .before .before .before in
     let at = in-loop .before in
-    (pass at, (start at .pre .1 .0, (at .before .before .systematic .ensures (table at) refl refl, (here in-loop, between c))))
+    (pass at, (start at .pre .1 .0, (at .before .before .is-systematic .ensures, (here in-loop, between c))))
 
 mul-backwards : tie.Need-mul-backwards Inv-loop μ-loop
 mul-backwards c = let in-loop = c .before .before .before .before in omega (arith, here in-loop, few-sections (pass (in-loop .before)))
@@ -201,7 +201,7 @@ backward-spec =
     (tie.spec
     Inv-loop
     μ-loop
-    systematic-requires
+    is-systematic-requires
     home-requires
     loop-holds
     sub-k

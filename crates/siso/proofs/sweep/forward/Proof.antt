@@ -11,12 +11,12 @@ use lib.ListN.{length, getD}
 use mir.Facts.{toZ-ofZ}
 use borrow.Author.Needs.{needs}
 use Rattle.integers.specs.Linear.{fits-of, widen, read-back}
-use Rattle.trellis.specs.Table.{Table}
+use Rattle.trellis.specs.Table.{Table, tableOf}
 use Rattle.trellis.specs.Path.{Values, aprioriAt}
 use Rattle.trellis.specs.Sweeps.{home, forward, forward-start}
 use Rattle.siso.specs.declared.metric.Metric.{Metric}
 use Rattle.siso.specs.Held.{row}
-use Rattle.siso.specs.Lent.{tableOf, valuesOf, Pass, Forward}
+use Rattle.siso.specs.Lent.{valuesOf, Pass, Forward}
 use Rattle.siso.specs.Passed.{table-limits, few-sections, table-branches}
 use Rattle.siso.specs.Gathered.{Gathered, part-length, part-within, gathered, gathered-gains}
 use Rattle.siso.specs.Steps.{Agree, next-forward, forward-held}

@@ -9,7 +9,8 @@ use lib.ListN.{length, replicate}
 use borrow.Author.Needs.{needs}
 use Rattle.lists.specs.Lists.{found}
 use Rattle.trellis.specs.Outcome.{pathless}
-use Rattle.siso.specs.Lent.{tableOf, callOf, lentOf}
+use Rattle.trellis.specs.Table.{tableOf}
+use Rattle.siso.specs.Lent.{callOf, lentOf}
 use Rattle.siso.specs.Passed.{table-limits}
 use Rattle.siso.specs.Settled.{reached-is, settled-none, settled-done}
 use Rattle.siso.proofs.sweep.run.Statement.{statement}

@@ -13,7 +13,8 @@ use Rattle.integers.specs.Linear.{plain, fits-of, widen}
 use Rattle.trellis.specs.Path.{aprioriAt}
 use Rattle.siso.specs.Between.{best-asked, best-is}
 use Rattle.siso.specs.Held.{there}
-use Rattle.siso.specs.Lent.{tableOf, valuesOf}
+use Rattle.trellis.specs.Table.{tableOf}
+use Rattle.siso.specs.Lent.{valuesOf}
 use Rattle.siso.proofs.Places.{channel-place}
 use Rattle.siso.proofs.Settled.{Met, told-asked, told-is, settled-is, settled-asked}
 use Rattle.siso.proofs.sweep.settle.Statement.{statement}

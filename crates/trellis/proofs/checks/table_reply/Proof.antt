@@ -1,4 +1,4 @@
--- `siso::checks::table_reply` goes through the table's two checks in turn: the shape, then the next states and the words.
+-- `trellis::checks::table_reply` goes through the table's two checks in turn: the shape, then the next states and the words.
 -- Assumes nothing.
 use mathlib.Core.Path.{_≡_, sym, _∙_}
 use mathlib.Core.Bool.{true, and-false}
@@ -7,11 +7,10 @@ use borrow.Author.Tests.{not-true, not-false}
 use Rattle.refusal.specs.declared.Refusal.the-variants.{Shape, Branch}
 use Rattle.refusal.specs.Checks.{check-is-done, fails, fails-first, passes-first}
 use Rattle.lists.specs.Tests.{and-true}
-use Rattle.trellis.specs.Table.{Table, shaped, branched}
+use Rattle.trellis.specs.Table.{Table, shaped, branched, tableOf}
 use Rattle.trellis.specs.Branches.{shaped-is}
-use Rattle.siso.specs.Lent.{tableOf}
-use Rattle.siso.proofs.checks.table_reply.Statement.{statement}
-use Rattle.siso.proofs.checks.table_reply.Tie as tie
+use Rattle.trellis.proofs.checks.table_reply.Statement.{statement}
+use Rattle.trellis.proofs.checks.table_reply.Tie as tie
 
 table : tie.Start → Table
 table c = tableOf (c .args .states) (c .args .outputs) (c .args .next .now) (c .args .words .now)

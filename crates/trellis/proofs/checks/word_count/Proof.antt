@@ -1,9 +1,9 @@
--- `siso::checks::word_count` is 2 to the number of outputs: each arm is a power of 2, and the last is that of 4.
+-- `trellis::checks::word_count` is 2 to the number of outputs: each arm is a power of 2, and the last is that of 4.
 -- Assumes nothing.
 use mathlib.Core.Path.{_≡_}
 use native.Mathlib.Omega.{arith}
-use Rattle.siso.proofs.checks.word_count.Statement.{statement}
-use Rattle.siso.proofs.checks.word_count.Tie as tie
+use Rattle.trellis.proofs.checks.word_count.Statement.{statement}
+use Rattle.trellis.proofs.checks.word_count.Tie as tie
 
 returns : tie.Need-returns
 returns c = rw (c .match .keys1)

@@ -1,4 +1,4 @@
--- `siso::checks::all_inside` is the test of every value. Invariant: the values passed are within the limit. Assumes nothing.
+-- `trellis::checks::all_inside` is the test of every value. Invariant: the values passed are within the limit. Assumes nothing.
 use mathlib.Core.Path.{_≡_, sym}
 use mathlib.Core.Bool.{true}
 use Prim.Native.Nat.{ℕ, _≤_, _<_, _-_}
@@ -13,8 +13,8 @@ use borrow.Author.Tests.{le-leb, lt-leb}
 use Rattle.integers.specs.Integers.{inside}
 use Rattle.integers.specs.Linear.{plain}
 use Rattle.lists.specs.Every.{at-every, every-not}
-use Rattle.siso.proofs.checks.all_inside.Statement.{statement}
-use Rattle.siso.proofs.checks.all_inside.Tie as tie
+use Rattle.trellis.proofs.checks.all_inside.Statement.{statement}
+use Rattle.trellis.proofs.checks.all_inside.Tie as tie
 
 abbrev Inv-loop : tie.InvT-loop
 Inv-loop xs limit i₀ i = (i ≤ length xs) × ((k : ℕ) → k < i → inside limit (getD xs k (pos 0)) ≡ true)

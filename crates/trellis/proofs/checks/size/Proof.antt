@@ -1,4 +1,4 @@
--- `siso::checks::size` is the value's size: in the wider type its negation fits, and what is not negative is its own size.
+-- `trellis::checks::size` is the value's size: in the wider type its negation fits, and what is not negative is its own size.
 -- Assumes nothing.
 use native.Mathlib.Omega.{arith}
 use lib.Dec.{T}
@@ -8,8 +8,8 @@ use mir.Syntax.{w32}
 use mir.Val.{Fits, SFits}
 use Rattle.integers.specs.Linear.{ints, plain, widen}
 use Rattle.integers.specs.Parts.{parts}
-use Rattle.siso.proofs.checks.size.Statement.{statement}
-use Rattle.siso.proofs.checks.size.Tie as tie
+use Rattle.trellis.proofs.checks.size.Statement.{statement}
+use Rattle.trellis.proofs.checks.size.Tie as tie
 
 -- what a cast to an unsigned type asks
 own-size : (z : ℤ) → pos 0 ≤ℤ z → SFits w32 z → T (nonNeg z) × Fits w32 (natAbs z)

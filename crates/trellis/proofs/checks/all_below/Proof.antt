@@ -1,4 +1,4 @@
--- `siso::checks::all_below` is the test of every entry. Invariant: the entries passed are below the limit. Assumes nothing.
+-- `trellis::checks::all_below` is the test of every entry. Invariant: the entries passed are below the limit. Assumes nothing.
 use mathlib.Core.Path.{_≡_, sym}
 use mathlib.Core.Bool.{true}
 use Prim.Native.Nat.{ℕ, _≤_, _<_, _-_}
@@ -9,8 +9,8 @@ use borrow.Author.Count.{below-more}
 use borrow.Author.Needs.{needs}
 use borrow.Author.Tests.{le-ltb, lt-ltb}
 use Rattle.lists.specs.Every.{at-every, every-not}
-use Rattle.siso.proofs.checks.all_below.Statement.{statement}
-use Rattle.siso.proofs.checks.all_below.Tie as tie
+use Rattle.trellis.proofs.checks.all_below.Statement.{statement}
+use Rattle.trellis.proofs.checks.all_below.Tie as tie
 
 abbrev Inv-loop : tie.InvT-loop
 Inv-loop xs limit i₀ i = (i ≤ length xs) × ((k : ℕ) → k < i → ltb (getD xs k 0) limit ≡ true)

@@ -1,11 +1,11 @@
--- `siso::checks::shaped` is the definition's test. Each early return fails one part of it; at the end every part but the last has passed.
+-- `trellis::checks::shaped` is the definition's test. Each early return fails one part of it; at the end every part but the last has passed.
 -- Assumes nothing.
 use mathlib.Core.Bool.{and-false}
 use borrow.Author.Needs.{needs}
 use borrow.Author.Tests.{le-leb, lt-leb, eq-eqb, ne-eqb}
 use Rattle.trellis.specs.Table.{shaped}
-use Rattle.siso.proofs.checks.shaped.Statement.{statement}
-use Rattle.siso.proofs.checks.shaped.Tie as tie
+use Rattle.trellis.proofs.checks.shaped.Statement.{statement}
+use Rattle.trellis.proofs.checks.shaped.Tie as tie
 
 returns : tie.Need-returns
 unfolding shaped
