@@ -53,9 +53,9 @@ unfolding
     Path.aprioriAt Path.channelAt Path.signed Path.wordMetric Path.branchMetric Path.metricFrom Path.finish Path.metric Path.allBits Path.homeward Path.paths Path.class
     Table.nextState Table.word Table.output Table.systematic Table.shaped Table.branched
     Lone.listsFit Lone.checked Lone.walked Lone.reply Lone.settled Lone.decode
-    Coder.tailFrom Coder.withTail Coder.parityAt Coder.sectionAt Coder.places Coder.sentFor Coder.encodeListsFit Coder.encodeReply Coder.encode
+    Coder.tailFrom Coder.withTail Coder.parityAt Coder.sectionAt Coder.places Coder.sentFor Coder.encodeListsFit Coder.encodeChecked Coder.tailed Coder.encodeReply Coder.encodeSettled Coder.encode
     Decoder.handOver Decoder.decided Decoder.channel1 Decoder.channel2 Decoder.pass Decoder.pass1 Decoder.pass2 Decoder.handOn Decoder.handBack Decoder.iteration Decoder.prior Decoder.lastPass Decoder.decodeListsFit Decoder.decodeReply Decoder.decode
-    Frame.sections Frame.sizesFit Frame.masksFit Frame.codes Frame.maskAt Frame.maskFlags Frame.onesTo Frame.frameLength Frame.flags Frame.puncture Frame.spread
+    Frame.sections Frame.sizesFit Frame.masksFit Frame.codes Frame.maskAt Frame.maskFlags Frame.onesTo Frame.lengthUnder Frame.frameLength Frame.flagsUnder Frame.flags Frame.puncture Frame.spread
     House.houseParity House.houseNext House.house
     Interleaver.permutes Interleaver.place Interleaver.interleave Interleaver.deinterleave
     Decimal.numeral Decimal.natural Decimal.opposite Decimal.integer Decimal.digitsIn Decimal.digits Decimal.decimal

@@ -3,3 +3,5 @@ pub mod Keep
 pub mod Tests
 pub mod Listed
 pub mod Every
+pub mod Stores
+pub mod Counts

@@ -56,9 +56,9 @@ encodeListsFit c sent =
     && eqb (length (c .message)) (f .bits)
     && (not (masksFit f) || eqb (length sent) (frameLength f))
 
--- the lowest number that applies, or done; `sent` is the list lent for the frame
-unfoldable pub encodeReply : EncodeCall → List ℕ → Reply
-encodeReply c sent =
+-- the checks of what is lent: the lowest number but 14 that applies; `sent` is the list lent for the frame
+unfoldable pub encodeChecked : EncodeCall → List ℕ → Reply
+encodeChecked c sent =
     let f = c .frame in
     check (shaped (f .table)) Shape
     then check (branched (f .table)) Branch
@@ -68,14 +68,23 @@ encodeReply c sent =
     then check (permutes (f .bits) (f .pattern)) Pattern
     then check (masksFit f) Mask
     then check (codes f) Coder
-    then check (found (sentFor f (c .message))) NoTail
+
+-- both coders have a tail (not so: 14)
+unfoldable pub tailed : EncodeCall → Reply
+tailed c = check (found (sentFor (c .frame) (c .message))) NoTail
+
+-- the lowest number that applies, or done
+unfoldable pub encodeReply : EncodeCall → List ℕ → Reply
+encodeReply c sent = encodeChecked c sent then tailed c
 
 -- the reply, and the frame's list as the coder leaves it
 pub record EncodeResult : Type 0 where
   pub reply : Reply
   pub sent : List ℕ
 
+-- what a reply leaves of the list
+unfoldable pub encodeSettled : Reply → EncodeCall → List ℕ → EncodeResult
+encodeSettled r c sent = record { reply = r; sent = after r (Option·getD (sentFor (c .frame) (c .message)) []) sent }
+
 unfoldable pub encode : EncodeCall → List ℕ → EncodeResult
-encode c sent =
-    let r = encodeReply c sent in
-    record { reply = r; sent = after r (Option·getD (sentFor (c .frame) (c .message)) []) sent }
+encode c sent = encodeSettled (encodeReply c sent) c sent

@@ -10,7 +10,7 @@ use Rattle.trellis.specs.Table.{nextState, word, output}
 use Rattle.trellis.specs.Path.{finish, allBits, homeward}
 use Rattle.turbo.specs.House.{house, houseNext, houseParity}
 use Rattle.turbo.specs.Interleaver.{place, interleave, deinterleave}
-use Rattle.turbo.specs.Frame.{Frame, maskAt, maskFlags, flags, puncture}
+use Rattle.turbo.specs.Frame.{Frame, maskAt, maskFlags, flagsUnder, flags, puncture}
 use Rattle.turbo.specs.Coder.{tailFrom, withTail, parityAt, sectionAt, places, sentFor}
 
 -- the house code, two message bits in the other order, two tail sections
@@ -19,7 +19,7 @@ swapped masks = record { table = house; bits = 2; tail = 2; pattern = 1 ∷ 0 �
 
 -- the frames sent for the message 1 0
 sentUnder : List ℕ → Option (List ℕ)
-unfolding swapped sentFor withTail tailFrom places sectionAt parityAt flags maskAt maskFlags puncture interleave house houseNext houseParity nextState word output finish allBits homeward listed joined keep bind
+unfolding swapped sentFor withTail tailFrom places sectionAt parityAt flags flagsUnder maskAt maskFlags puncture interleave house houseNext houseParity nextState word output finish allBits homeward listed joined keep bind
 sentUnder masks = sentFor (swapped masks) (1 ∷ 0 ∷ [])
 
 -- 110 011, then tail 1 as 01 11, then tail 2 as 10 11

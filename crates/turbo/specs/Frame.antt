@@ -37,26 +37,33 @@ codes f = systematic (f .table) && eqb (f .table .outputs) 2
 -- ---- masks
 
 -- the mask at position k: the masks repeat
-unfoldable pub maskAt : Frame → ℕ → ℕ
-maskAt f k = getD (f .masks) (k % length (f .masks)) 0
+unfoldable pub maskAt : List ℕ → ℕ → ℕ
+maskAt masks k = getD masks (k % length masks) 0
 
 -- a mask is 4·systematic + 2·parity 1 + parity 2, a bit 1 meaning sent
 unfoldable pub maskFlags : ℕ → List Bool
 maskFlags m = eqb (m / 4 % 2) 1 ∷ eqb (m / 2 % 2) 1 ∷ eqb (m % 2) 1 ∷ []
 
--- the frame's length: over the K positions, the number of ones in its masks, plus 4·T
-unfoldable pub onesTo : Frame → ℕ → ℕ
-onesTo f zero = 0
-onesTo f (suc k) = onesTo f k + ones (maskAt f k)
+-- the number of ones in the masks of the first k positions
+unfoldable pub onesTo : List ℕ → ℕ → ℕ
+onesTo masks zero = 0
+onesTo masks (suc k) = onesTo masks k + ones (maskAt masks k)
+
+-- the length of a frame of k positions and t tail sections: over the positions, the number of ones in its masks, plus 4·t
+unfoldable pub lengthUnder : List ℕ → ℕ → ℕ → ℕ
+lengthUnder masks k t = onesTo masks k + 4 * t
 
 unfoldable pub frameLength : Frame → ℕ
-frameLength f = onesTo f (f .bits) + 4 * f .tail
+frameLength f = lengthUnder (f .masks) (f .bits) (f .tail)
 
 -- ---- places: systematic, parity 1 and parity 2 of each position, then tail 1, then tail 2, each systematic then parity, section by section
 
 -- which places are sent: those that the masks say, and all of both tails
+unfoldable pub flagsUnder : List ℕ → ℕ → ℕ → List Bool
+flagsUnder masks k t = joined (λ i. maskFlags (maskAt masks i)) k ++ replicate (4 * t) true
+
 unfoldable pub flags : Frame → List Bool
-flags f = joined (λ k. maskFlags (maskAt f k)) (f .bits) ++ replicate (4 * f .tail) true
+flags f = flagsUnder (f .masks) (f .bits) (f .tail)
 
 module _ {A : Type 0} where
   -- the values of the places that are sent, in order

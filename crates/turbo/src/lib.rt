@@ -1,1 +1,6 @@
-// The turbo frame: interleaver, masks, tails, coder and frame decoder. Each entry's whole result is a definition of specs/.
+// The turbo frame: house code, interleaver, masks, tails and the coder.
+mod coder;
+mod frame;
+mod house;
+mod interleaver;
+mod tail;

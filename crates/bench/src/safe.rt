@@ -1,0 +1,58 @@
+// Reads, sums and products that refuse nothing: out of range is 0. With them the bench's own code needs no bounds.
+
+pub fn byte(xs: &[u8], i: usize) -> u8 {
+    if i < xs.len() { xs[i] } else { 0 }
+}
+
+pub fn half(xs: &[i16], i: usize) -> i16 {
+    if i < xs.len() { xs[i] } else { 0 }
+}
+
+pub fn word(xs: &[i32], i: usize) -> i32 {
+    if i < xs.len() { xs[i] } else { 0 }
+}
+
+// The sum of two numbers of at most 500,000,000 in size, and 0 of larger ones.
+pub fn sum(x: i32, y: i32) -> i32 {
+    if x < -500000000 {
+        return 0;
+    }
+    if 500000000 < x {
+        return 0;
+    }
+    if y < -500000000 {
+        return 0;
+    }
+    if 500000000 < y {
+        return 0;
+    }
+    x + y
+}
+
+// The sum of two numbers below 65,536, and 0 of larger ones.
+pub fn add(x: usize, y: usize) -> usize {
+    if 65535 < x {
+        return 0;
+    }
+    if 65535 < y {
+        return 0;
+    }
+    x + y
+}
+
+// The product of two numbers below 65,536, and 0 of larger ones.
+pub fn times(x: usize, y: usize) -> usize {
+    if 65535 < x {
+        return 0;
+    }
+    if 65535 < y {
+        return 0;
+    }
+    x * y
+}
+
+// A decimal number and a space or a line end after it.
+pub fn print(n: usize, after: &[u8]) {
+    io::print_decimal(1, n as u64);
+    io::write_all(1, after);
+}

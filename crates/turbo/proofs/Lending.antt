@@ -1,0 +1,23 @@
+-- The front of a list that is lent and comes back: its length, and what the list says of it then.
+-- Assumes nothing.
+use mathlib.Core.Path.{_≡_, sym, _∙_}
+use mathlib.Core.List.{List, _++_}
+use Prim.Native.Nat.{ℕ, _≤_}
+use lib.ListN.{length, take, drop}
+use lib.Seq.{length-take-le, length-front, take-at}
+
+-- the first n entries of xs came back as `front`
+pub record Back {A : Type 0} (n : ℕ) (xs front : List A) : Type 0 where
+  pub long : length front ≡ n
+  pub within : n ≤ length (front ++ drop n xs)
+  pub is : take n (front ++ drop n xs) ≡ front
+
+module _ {A : Type 0} (n : ℕ) (xs : List A) (within : n ≤ length xs) where
+  pub front-long : n ≡ length (take n xs)
+  front-long = sym (length-take-le n xs within)
+
+  -- a list that is lent keeps its length
+  pub front-back : {front : List A} → length front ≡ length (take n xs) → Back n xs front
+  front-back {front} same =
+      let long : length front ≡ n = same ∙ sym front-long in
+      record { long = long; within = rw (length-front xs front n same) within; is = take-at front (drop n xs) n long }
