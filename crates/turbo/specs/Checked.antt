@@ -36,17 +36,23 @@ table-leads t e b =
       few = omega (arith, shape .next-length, shape .most-states);
     }
 
+pub sizes-small : (f : Frame) → sizesFit f ≡ true → (f .tail ≤ 4) × (f .bits + f .tail ≤ 4096)
+unfolding sizesFit sections
+sizes-small f e =
+    let (each, both) = and-both _ _ e in
+    (leb-true _ _ (and-right (leb 1 (f .bits)) _ each), leb-true _ _ both)
+
 pub checked : (f : Frame) → Framed f → Checked f
-unfolding sizesFit masksFit sections
+unfolding masksFit
 checked f w =
     let shape = shaped-is (f .table) (w .shape) in
-    let (sizes, few-sections) = and-both _ _ (w .sizes) in
+    let (few-tails, few-sections) = sizes-small f (w .sizes) in
     let (periods, small) = and-both _ _ (w .masks) in
     record {
       leads = table-leads (f .table) (w .shape) (w .branches);
       words-long = shape .words-length ∙ sym (shape .next-length);
-      few-tails = leb-true _ _ (and-right (leb 1 (f .bits)) _ sizes);
-      few-sections = leb-true _ _ few-sections;
+      few-tails = few-tails;
+      few-sections = few-sections;
       permutes = permuting (f .bits) (f .pattern) (w .pattern-long) (w .permutes);
       some-mask = leb-true _ _ (and-left _ _ periods);
       small-masks = λ i h. ltb-true _ _ (every-at (λ m. ltb m 8) 0 (f .masks) small i h);

@@ -1,10 +1,10 @@
 -- What the coder is lent, as the definitions' call; and what is known of it once the checks have passed.
 -- Assumes nothing.
 use mathlib.Core.Path.{_≡_}
-use mathlib.Core.Bool.{Bool, true}
+use mathlib.Core.Bool.{Bool, true, _&&_}
 use mathlib.Core.List.{List}
 use Prim.Native.Nat.{ℕ}
-use lib.Dec.{ltb}
+use lib.Dec.{leb, ltb}
 use lib.ListN.{length}
 use Rattle.lists.specs.Lists.{every}
 use Rattle.refusal.specs.declared.Reply.{Reply}
@@ -27,6 +27,10 @@ encodeOf states outputs next words bits tail message pattern masks = record {
   frame = frameOf states outputs next words bits tail pattern masks;
   message = message;
 }
+
+-- the frame's test of its masks, over the list alone
+abbrev pub goodMasks : List ℕ → Bool
+goodMasks masks = leb 1 (length masks) && leb (length masks) 16 && every (λ m. ltb m 8) masks
 
 -- what the coder leaves, as the definitions' result
 abbrev pub encodedOf : Reply → List ℕ → EncodeResult

@@ -19,4 +19,5 @@ pub mod WordPlaces
 pub mod Bits
 pub mod TailPaths
 pub mod Coding
+pub mod Encoded
 pub mod Examples

@@ -1,0 +1,49 @@
+-- `turbo::encode` meets its contract: a call that the checks refuse leaves the list as it was, and any other is coded.
+-- Assumes nothing.
+use mathlib.Core.Path.{_≡_, sym, _∙_}
+use borrow.Author.Needs.{needs}
+use Rattle.turbo.specs.Encoded.{encode-refused, encode-coded, codable}
+use Rattle.turbo.proofs.encode.Statement.{statement}
+use Rattle.turbo.proofs.encode.Tie as tie
+
+encode-reply-requires : tie.Need-encode-reply-requires
+encode-reply-requires c κs = search needs
+
+enum-told : tie.Need-enum-told
+enum-told c = search needs
+
+same-length : tie.Need-same-length
+same-length c = search needs
+
+returns : tie.Need-returns
+returns c = rw (c .enum-told .given .1) (encode-refused _ _ _ (sym (c .before .before .encode-reply .ensures) ∙ c .enum-told .given .1))
+
+enum-told-2 : tie.Need-enum-told-2
+enum-told-2 c = search needs
+
+run-requires : tie.Need-run-requires
+run-requires c κs =
+    let told = c .before in
+    codable _ _ (sym (told .before .before .encode-reply .ensures) ∙ told .enum-told2 .given .1)
+
+same-length-2 : tie.Need-same-length-2
+same-length-2 c = search needs
+
+returns-2 : tie.Need-returns-2
+returns-2 c =
+    let ran = c .before .before in
+    let told = ran .before .before in
+    ran .run .ensures ∙ encode-coded _ _ (sym (told .before .before .encode-reply .ensures) ∙ told .enum-told2 .given .1)
+
+pub encode-spec : {M : Type 1} → statement M
+encode-spec =
+    tie.close
+    (tie.spec
+    encode-reply-requires
+    enum-told
+    same-length
+    returns
+    enum-told-2
+    run-requires
+    same-length-2
+    returns-2)
