@@ -7,4 +7,3 @@ pub mod Gathered
 pub mod Steps
 pub mod Between
 pub mod Settled
-pub mod Margins

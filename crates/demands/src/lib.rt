@@ -1,0 +1,1 @@
+// The user's demands as theorems about whole calls. Definitions and theorems only.
