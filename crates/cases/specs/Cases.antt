@@ -18,8 +18,8 @@ use Rattle.trellis.specs.Path
 use Rattle.trellis.specs.Limits
 use Rattle.trellis.specs.Outcome
 use Rattle.siso.specs.Decode as Lone
-use Rattle.turbo.specs.House
-use Rattle.turbo.specs.House.{house}
+use Rattle.house.specs.House
+use Rattle.house.specs.House.{house}
 use Rattle.turbo.specs.Interleaver
 use Rattle.turbo.specs.Frame
 use Rattle.turbo.specs.Frame.{Frame}

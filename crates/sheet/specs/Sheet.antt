@@ -13,7 +13,7 @@ use Rattle.refusal.specs.declared.Refusal.the-variants.{Text}
 use Rattle.refusal.specs.declared.Reply.{Reply}
 use Rattle.refusal.specs.declared.Reply.the-variants.{Done, Refused}
 use Rattle.refusal.specs.Refusals.{told, check, _then_}
-use Rattle.turbo.specs.House.{house}
+use Rattle.house.specs.House.{house}
 use Rattle.turbo.specs.Frame.{Frame}
 use Rattle.turbo.specs.Decoder.{DecodeCall, DecodeLent, decode}
 use Rattle.sheet.specs.Text.{bytes, lineFeed, cut, same}

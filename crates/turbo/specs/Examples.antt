@@ -8,7 +8,7 @@ use Prim.Native.Nat.{ℕ}
 use Rattle.lists.specs.Lists.{listed, joined, keep}
 use Rattle.trellis.specs.Table.{nextState, word, output}
 use Rattle.trellis.specs.Path.{finish, allBits, homeward}
-use Rattle.turbo.specs.House.{house, houseNext, houseParity}
+use Rattle.house.specs.House.{house, houseNext, houseParity}
 use Rattle.turbo.specs.Interleaver.{place, interleave, deinterleave}
 use Rattle.turbo.specs.Frame.{Frame, maskAt, maskFlags, flagsUnder, flags, puncture}
 use Rattle.turbo.specs.Coder.{tailFrom, withTail, parityAt, sectionAt, places, sentFor}

@@ -1,4 +1,3 @@
-pub mod House
 pub mod Interleaver
 pub mod Frame
 pub mod Coder

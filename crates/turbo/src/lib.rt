@@ -1,4 +1,4 @@
-// The turbo frame: house code, interleaver, masks, tails and the coder.
+// The turbo frame: interleaver, masks, tails and the coder. The house code comes with it.
 ghost use mathlib.Core.Path.{_≡_};
 ghost use Rattle.turbo.specs.Coder.{encode as encoded};
 ghost use Rattle.turbo.specs.Lent.{encodeOf, encodedOf};
@@ -6,7 +6,6 @@ ghost use Rattle.turbo.specs.Lent.{encodeOf, encodedOf};
 mod checks;
 mod coder;
 mod frame;
-mod house;
 mod interleaver;
 mod tail;
 

@@ -1,12 +1,12 @@
--- `turbo::house::xor` meets its contract: for two bits, the sum's parity is their exclusive or.
+-- `house::xor` meets its contract: for two bits, the sum's parity is their exclusive or.
 -- Assumes nothing.
 use mathlib.Core.Path.{_≡_, refl}
 use Prim.Native.Nat.{ℕ, zero, suc, _+_, _%_, _<_}
 use native.Mathlib.Omega.{arith}
 use lib.Bits.{bitXor}
 use borrow.Author.Needs.{needs}
-use Rattle.turbo.proofs.house.xor.Statement.{statement}
-use Rattle.turbo.proofs.house.xor.Tie as tie
+use Rattle.house.proofs.xor.Statement.{statement}
+use Rattle.house.proofs.xor.Tie as tie
 
 bits-differ : (a b : ℕ) → a < 2 → b < 2 → (a + b) % 2 ≡ bitXor a b
 bits-differ zero zero h k = refl

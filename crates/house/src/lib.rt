@@ -3,7 +3,7 @@ ghost use mathlib.Core.Path.{_≡_};
 ghost use Prim.Native.Nat.{_<_};
 ghost use lib.Bits.{bitXor};
 ghost use Rattle.trellis.specs.Table.{Table};
-ghost use Rattle.turbo.specs.House.{houseParity, houseNext, house};
+ghost use Rattle.house.specs.House.{houseParity, houseNext, house};
 
 // The parity for input x in state s, and the state after it.
 struct Branch {

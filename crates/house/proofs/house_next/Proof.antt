@@ -1,4 +1,4 @@
--- `turbo::house::house_next` meets its contract. The invariant: the entries below i are the table's.
+-- `house::house_next` meets its contract. The invariant: the entries below i are the table's.
 -- Assumes nothing.
 use mathlib.Core.Path.{_≡_, ap}
 use Prim.Native.Nat.{ℕ, _+_, _*_, _/_, _%_, _-_, _≤_}
@@ -6,9 +6,9 @@ use native.Mathlib.Omega.{arith}
 use lib.ListN.{length, length-set}
 use borrow.Author.Needs.{needs}
 use Rattle.lists.specs.Stores.{Filled, filled-none, filled-more, filled-all}
-use Rattle.turbo.specs.House.{houseNext, house}
-use Rattle.turbo.proofs.house.house_next.Statement.{statement}
-use Rattle.turbo.proofs.house.house_next.Tie as tie
+use Rattle.house.specs.House.{houseNext, house}
+use Rattle.house.proofs.house_next.Statement.{statement}
+use Rattle.house.proofs.house_next.Tie as tie
 
 abbrev entry : ℕ → ℕ
 entry i = houseNext (i / 2) (i % 2)

@@ -1,13 +1,13 @@
--- `turbo::house::branch_of` meets its contract: the state equations, one exclusive or at a time.
+-- `house::branch_of` meets its contract: the state equations, one exclusive or at a time.
 -- Assumes nothing.
 use mathlib.Core.Path.{_≡_, refl, ap, ap₂, _∙_}
 use Prim.Native.Nat.{ℕ, _+_, _*_, _%_, _/_}
 use native.Mathlib.Omega.{arith}
 use lib.Bits.{bitXor}
 use borrow.Author.Needs.{needs}
-use Rattle.turbo.specs.House.{houseParity, houseNext}
-use Rattle.turbo.proofs.house.branch_of.Statement.{statement}
-use Rattle.turbo.proofs.house.branch_of.Tie as tie
+use Rattle.house.specs.House.{houseParity, houseNext}
+use Rattle.house.proofs.branch_of.Statement.{statement}
+use Rattle.house.proofs.branch_of.Tie as tie
 
 xor-requires : tie.Need-xor-requires
 xor-requires c κs = search needs
