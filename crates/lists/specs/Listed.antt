@@ -55,6 +55,11 @@ module _ {A : Type 0} where
 
   -- ---- one list an index
 
+  pub joined-ext : (f g : ℕ → List A) (n : ℕ) → ((i : ℕ) → i < n → f i ≡ g i) → joined f n ≡ joined g n
+  unfolding joined
+  joined-ext f g zero h = refl
+  joined-ext f g (suc n) h = ap₂ _++_ (joined-ext f g n (λ i l. h i (omega arith))) (h n (omega arith))
+
   pub joined-more : (f : ℕ → List A) (n : ℕ) → joined f (n + 1) ≡ joined f n ++ f n
   unfolding joined
   joined-more f n = rw add-one

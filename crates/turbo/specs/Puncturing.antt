@@ -99,3 +99,15 @@ module _ {A : Type 0} where
     spread-at (true ∷ fs) (x ∷ xs) (suc i) = spread-at fs xs i
     spread-at (false ∷ fs) xs zero = refl
     spread-at (false ∷ fs) xs (suc i) = spread-at fs xs i
+
+    -- what spreading makes of a punctured frame: every sent value in its place, and d in every other
+    pub spread-punctured :
+        (fs : List Bool) (xs : List A) (i : ℕ) → length xs ≡ length fs →
+        getD (spread d fs (puncture fs xs)) i d ≡ cond (getD fs i false) (getD xs i d) d
+    unfolding spread puncture
+    spread-punctured [] xs i e = refl
+    spread-punctured (f ∷ fs) [] i e = absurd (omega (arith, e))
+    spread-punctured (true ∷ fs) (x ∷ xs) zero e = refl
+    spread-punctured (true ∷ fs) (x ∷ xs) (suc i) e = spread-punctured fs xs i (omega (arith, e))
+    spread-punctured (false ∷ fs) (x ∷ xs) zero e = refl
+    spread-punctured (false ∷ fs) (x ∷ xs) (suc i) e = spread-punctured fs xs i (omega (arith, e))

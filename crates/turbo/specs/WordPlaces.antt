@@ -6,7 +6,7 @@ use mathlib.Core.List.{List, [], _∷_, _++_}
 use Prim.Native.Nat.{ℕ, zero, suc, _+_, _<_}
 use native.Mathlib.Omega.{arith}
 use lib.ListN.{length, getD}
-use Rattle.lists.specs.Lists.{joined}
+use Rattle.lists.specs.Listed.{joined-ext}
 use Rattle.lists.specs.Tests.{and-left}
 use Rattle.trellis.specs.Table.{Table, nextState, output, systematic, shaped, branched}
 use Rattle.trellis.specs.Branches.{shaped-is, next-below, systematic-at}
@@ -15,12 +15,6 @@ use Rattle.turbo.specs.Frame.{Frame, sections, codes}
 use Rattle.turbo.specs.Coder.{parityAt, sectionAt, places}
 use Rattle.turbo.specs.Sections.{wordsAlong, sectionOf, placesOf}
 use Rattle.turbo.specs.Walking.{words-at}
-
--- two functions that agree below n
-joined-ext : {A : Type 0} (f g : ℕ → List A) (n : ℕ) → ((i : ℕ) → i < n → f i ≡ g i) → joined f n ≡ joined g n
-unfolding joined
-joined-ext f g zero h = refl
-joined-ext f g (suc n) h = ap₂ _++_ (joined-ext f g n (λ i l. h i (omega arith))) (h n (omega arith))
 
 parity-output : (t : Table) (xs : List ℕ) (k : ℕ) → k < length xs → output (getD (wordsAlong t 0 xs) k 0) 1 ≡ parityAt t xs k
 unfolding parityAt

@@ -103,19 +103,12 @@ fn entries_reply(
     requires { ⌜ length (now pattern) ≤ 4096 ⌝ }
     ensures { λ r. ⌜ r ≡ (check (every (λ b. ltb b 2) (now (message .entry))) Bit then check (permutesTo (length (now (pattern .entry))) (now (pattern .entry))) Pattern then check (goodMasks (now (masks .entry))) Mask then check (systematic (tableOf states outputs (now (next .entry)) (now (words .entry))) && eqb outputs 2) Coder) ⌝ }
 {
-    if !trellis::all_below(message, 2) {
-        return Reply::Refused(Refusal::Bit);
-    }
-    if !permutes(pattern) {
-        return Reply::Refused(Refusal::Pattern);
-    }
-    if !masks_fit(masks) {
-        return Reply::Refused(Refusal::Mask);
-    }
-    if !codes(states, outputs, next, words) {
-        return Reply::Refused(Refusal::Coder);
-    }
-    Reply::Done
+    let message_reply = refusal::check(trellis::all_below(message, 2), Refusal::Bit);
+    let pattern_reply = refusal::check(permutes(pattern), Refusal::Pattern);
+    let masks_reply = refusal::check(masks_fit(masks), Refusal::Mask);
+    let table_reply = refusal::check(codes(states, outputs, next, words), Refusal::Coder);
+    let frame_reply = refusal::first_of(masks_reply, table_reply);
+    refusal::first_of(message_reply, refusal::first_of(pattern_reply, frame_reply))
 }
 
 // The reply to a call of the coder, but for 14, from what is lent alone.

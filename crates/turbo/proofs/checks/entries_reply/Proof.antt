@@ -1,72 +1,75 @@
--- `turbo::checks::entries_reply` goes through its checks in turn.
+-- `turbo::checks::entries_reply` makes its checks in turn, as the definition has them.
 -- Assumes nothing.
-use mathlib.Core.Path.{_≡_, sym, _∙_}
 use borrow.Author.Needs.{needs}
-use borrow.Author.Tests.{not-true, not-false}
-use Rattle.refusal.specs.declared.Refusal.the-variants.{Bit, Pattern, Mask, Coder}
-use Rattle.refusal.specs.Checks.{check-is-done, fails, fails-first, passes-first}
 use Rattle.turbo.proofs.checks.entries_reply.Statement.{statement}
 use Rattle.turbo.proofs.checks.entries_reply.Tie as tie
 
 all-below-requires : tie.Need-all-below-requires
 all-below-requires c κs = search needs
 
-returns : tie.Need-returns
-returns c = fails-first _ (sym (c .before .all-below .ensures) ∙ not-true _ (c .if1 .taken))
+check-requires : tie.Need-check-requires
+check-requires c κs = search needs
 
 permutes-requires : tie.Need-permutes-requires
 permutes-requires c κs = search needs
 
-returns-2 : tie.Need-returns-2
-returns-2 c =
-    let one = c .before .before in
-    passes-first Bit (sym (one .before .all-below .ensures) ∙ not-false _ (one .if1 .left))
-    (fails-first _ (sym (c .before .permutes .ensures) ∙ not-true _ (c .if2 .taken)))
+check-requires-2 : tie.Need-check-requires-2
+check-requires-2 c κs = search needs
 
 masks-fit-requires : tie.Need-masks-fit-requires
 masks-fit-requires c κs = search needs
 
-returns-3 : tie.Need-returns-3
-returns-3 c =
-    let two = c .before .before in
-    let one = two .before .before in
-    passes-first Bit (sym (one .before .all-below .ensures) ∙ not-false _ (one .if1 .left))
-    (passes-first Pattern (sym (two .before .permutes .ensures) ∙ not-false _ (two .if2 .left))
-    (fails-first _ (sym (c .before .masks-fit .ensures) ∙ not-true _ (c .if3 .taken))))
+check-requires-3 : tie.Need-check-requires-3
+check-requires-3 c κs = search needs
 
 codes-requires : tie.Need-codes-requires
 codes-requires c κs = search needs
 
-returns-4 : tie.Need-returns-4
-returns-4 c =
-    let three = c .before .before in
-    let two = three .before .before in
-    let one = two .before .before in
-    passes-first Bit (sym (one .before .all-below .ensures) ∙ not-false _ (one .if1 .left))
-    (passes-first Pattern (sym (two .before .permutes .ensures) ∙ not-false _ (two .if2 .left))
-    (passes-first Mask (sym (three .before .masks-fit .ensures) ∙ not-false _ (three .if3 .left))
-    (fails (sym (c .before .codes .ensures) ∙ not-true _ (c .if4 .taken)))))
+check-requires-4 : tie.Need-check-requires-4
+check-requires-4 c κs = search needs
 
-returns-5 : tie.Need-returns-5
-returns-5 c =
-    let three = c .before .before in
-    let two = three .before .before in
-    let one = two .before .before in
-    passes-first Bit (sym (one .before .all-below .ensures) ∙ not-false _ (one .if1 .left))
-    (passes-first Pattern (sym (two .before .permutes .ensures) ∙ not-false _ (two .if2 .left))
-    (passes-first Mask (sym (three .before .masks-fit .ensures) ∙ not-false _ (three .if3 .left))
-    (sym (check-is-done _ Coder .1 (sym (c .before .codes .ensures) ∙ not-false _ (c .if4 .left))))))
+first-of-requires : tie.Need-first-of-requires
+first-of-requires c κs = search needs
+
+first-of-requires-2 : tie.Need-first-of-requires-2
+first-of-requires-2 c κs = search needs
+
+first-of-requires-3 : tie.Need-first-of-requires-3
+first-of-requires-3 c κs = search needs
+
+returns : tie.Need-returns
+returns c =
+    let coded = c .before .before .before in
+    let masked = coded .before .before in
+    let ordered = masked .before .before in
+    let read = ordered .before .before in
+    rw (
+      c .first-of3 .ensures,
+      c .before .first-of2 .ensures,
+      c .before .before .first-of .ensures,
+      coded .check4 .ensures,
+      coded .before .codes .ensures,
+      masked .check3 .ensures,
+      masked .before .masks-fit .ensures,
+      ordered .check2 .ensures,
+      ordered .before .permutes .ensures,
+      read .check .ensures,
+      read .before .all-below .ensures,
+    )
 
 pub entries-reply-spec : {M : Type 1} → statement M
 entries-reply-spec =
     tie.close
     (tie.spec
     all-below-requires
-    returns
+    check-requires
     permutes-requires
-    returns-2
+    check-requires-2
     masks-fit-requires
-    returns-3
+    check-requires-3
     codes-requires
-    returns-4
-    returns-5)
+    check-requires-4
+    first-of-requires
+    first-of-requires-2
+    first-of-requires-3
+    returns)

@@ -45,7 +45,7 @@ module _ (t : ℕ) where
   tail-from-requires : lts.Need-tail-from-requires (known t) (entered t) own.Post
   tail-from-requires c κs =
       let start = c .before .before .before in
-      (omega (arith, start .pre .0), (leads-on 0 (lit< tt) (start .pre .1 .0) (c .target .ensures), omega (arith, start .pre .1 .1)))
+      (omega (arith, start .pre .0), (leads-on _ (lit< tt) (start .pre .1 .0) (c .target .ensures), omega (arith, start .pre .1 .1)))
 
   enum-told : lts.Need-enum-told (known t) (entered t) own.Post
   enum-told c = search needs
@@ -61,7 +61,7 @@ module _ (t : ℕ) where
   target-requires-2 : lts.Need-target-requires-2 (known t) (entered t) own.Post
   target-requires-2 c κs =
       let start = c .before .before .before .before .before .before in
-      (start .pre .1 .0 .starts, start .pre .1 .0 .few)
+      (omega (arith, start .pre .1 .0 .starts), start .pre .1 .0 .few)
 
   sub-tail-from-2 : lts.Need-sub-tail-from-2 (known t) (entered t) own.Post
   sub-tail-from-2 c = omega (arith, c .before .before .before .before .before)
@@ -69,7 +69,7 @@ module _ (t : ℕ) where
   tail-from-requires-2 : lts.Need-tail-from-requires-2 (known t) (entered t) own.Post
   tail-from-requires-2 c κs =
       let start = c .before .before .before .before .before .before .before in
-      (omega (arith, start .pre .0, c .before .before .before .before .before), (leads-on 1 (lit< tt) (start .pre .1 .0) (c .target2 .ensures), omega (arith, start .pre .1 .1)))
+      (omega (arith, start .pre .0, c .before .before .before .before .before), (leads-on _ (lit< tt) (start .pre .1 .0) (c .target2 .ensures), omega (arith, start .pre .1 .1)))
 
   with-input-requires-2 : lts.Need-with-input-requires-2 (known t) (entered t) own.Post
   with-input-requires-2 c κs =
