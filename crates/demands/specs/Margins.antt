@@ -1,12 +1,11 @@
 -- Demand 3 for the lone decoder, as one statement about a whole call: from the values lent to the lists written, every margin is exactly half the
 -- difference of the best metrics of the two classes over all paths, and forced, free and no path are what the classes say.
 -- Assumes nothing.
-use mathlib.Core.Path.{_≡_, refl, sym, ap, ap₂, _∙_}
+use mathlib.Core.Path.{_≡_, refl, sym, ap₂, _∙_}
 use mathlib.Core.Logic.{_↔_, _⊎_, inl, inr}
 use mathlib.Core.Bool.{Bool, true, false, not, false≢true}
 use mathlib.Core.Option.{Option, none, some, Option·elim}
-use Prim.Native.Nat.{ℕ, zero, suc, _-_, _<_}
-use native.Mathlib.Omega.{arith}
+use Prim.Native.Nat.{ℕ, _-_, _<_}
 use lib.IntN.{ℤ, pos, _-ℤ_, _*ℤ_}
 use lib.ListN.{getD}
 use borrow.Author.Tests.{not-true}
@@ -16,9 +15,8 @@ use Rattle.refusal.specs.declared.Reply.the-variants.{Done, Refused}
 use Rattle.refusal.specs.Refusals.{check, _then_, after}
 use Rattle.refusal.specs.Checks.{refused-is-not-done, check-is-done, then-is-done}
 use Rattle.trellis.specs.declared.Outcome.{Outcome}
-use Rattle.trellis.specs.declared.Outcome.the-variants.{Free, Forced}
 use Rattle.trellis.specs.Table.{Table}
-use Rattle.trellis.specs.Path.{Values, TrellisPath, class}
+use Rattle.trellis.specs.Path.{Values, TrellisPath}
 use Rattle.trellis.specs.Outcome.{best, outcomeOf, outcome, pathless, mark, margin, intrinsic, extrinsic, positionOf, position, marks, margins, extrinsics}
 use Rattle.trellis.specs.Listing.{InClass}
 use Rattle.trellis.specs.Greatest.{IsBest, best-is-some, best-is-none-without-paths}

@@ -2,7 +2,6 @@
 ghost use mathlib.Core.Path.{_≡_};
 ghost use Prim.Native.Nat.{_<_};
 ghost use lib.Bits.{bitXor};
-ghost use Rattle.trellis.specs.Table.{Table};
 ghost use Rattle.house.specs.House.{houseParity, houseNext, house};
 
 // The parity for input x in state s, and the state after it.

@@ -5,10 +5,10 @@ use mathlib.Core.List.{List, [], _∷_, _++_, foldl, tail}
 use mathlib.Core.Option.{Option, none, some, Option·map, bind}
 use Prim.Native.Nat.{ℕ, zero, suc, _+_, _-_, _*_, _/_, _%_}
 use lib.Dec.{eqb, leb, ltb}
-use lib.IntN.{ℤ, pos, negsuc, negℤ}
+use lib.IntN.{ℤ, pos, negsuc}
 use lib.ListN.{length, getD}
 use Rattle.lists.specs.Lists.{every}
-use Rattle.sheet.specs.Text.{minus, bytes}
+use Rattle.sheet.specs.Text.{minus}
 
 -- ---- read
 

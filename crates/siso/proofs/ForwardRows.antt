@@ -1,6 +1,6 @@
 -- The working list as the forward sweep fills it, a row a section: the first row, and one row more.
 -- Assumes nothing.
-use mathlib.Core.Path.{_≡_, sym, ap, _∙_}
+use mathlib.Core.Path.{_≡_, ap, _∙_}
 use mathlib.Core.List.{List}
 use Prim.Native.Nat.{ℕ, suc, _+_, _*_, _≤_, _<_}
 use native.Mathlib.Decide.{ℕ-discrete}
@@ -12,7 +12,7 @@ use lib.ListN.{getD}
 use Rattle.trellis.specs.Table.{Table}
 use Rattle.trellis.specs.Path.{Values}
 use Rattle.trellis.specs.Sizes.{small-more}
-use Rattle.trellis.specs.Sweeps.{home, forward, forward-start}
+use Rattle.trellis.specs.Sweeps.{home, forward}
 use Rattle.siso.specs.declared.metric.Metric.{Metric}
 use Rattle.siso.specs.Held.{there, metricOf, row, Saved}
 use Rattle.siso.specs.Lent.{Pass, Forward}

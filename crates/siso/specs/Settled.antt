@@ -1,6 +1,6 @@
 -- What a pass leaves, by whether there is a path, and what the whole call leaves, by whether the checks refuse.
 -- Assumes nothing.
-use mathlib.Core.Path.{_≡_, refl, sym, ap, _∙_}
+use mathlib.Core.Path.{_≡_, refl, sym, _∙_}
 use mathlib.Core.Bool.{Bool, true, false, not, _&&_}
 use mathlib.Core.List.{List}
 use mathlib.Core.Option.{Option, none, some}
@@ -21,7 +21,7 @@ use Rattle.trellis.specs.Limits.{sectionsFit, channelFits, aprioriFits}
 use Rattle.trellis.specs.Outcome.{pathless, marks, margins, extrinsics}
 use Rattle.trellis.specs.Recursion.{pathless-by-recursion}
 use Rattle.trellis.specs.Sweeps.{home, forward}
-use Rattle.siso.specs.Decode.{Call, Lent, Result, listsFit, checked, walked, reply, settled, decode}
+use Rattle.siso.specs.Decode.{Call, Lent, listsFit, checked, walked, reply, settled, decode}
 use Rattle.siso.specs.Lent.{resultOf, Pass}
 use Rattle.siso.specs.Passed.{table-closed, table-limits}
 

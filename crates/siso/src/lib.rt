@@ -9,7 +9,6 @@ mod position;
 mod section;
 mod sweep;
 
-use refusal::Refusal;
 use refusal::Reply;
 
 pub fn decode(

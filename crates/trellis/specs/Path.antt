@@ -1,6 +1,5 @@
 -- Paths and their metrics (document 01, "Table, path and metric"): every path of a table, by listing, and the sum that is its metric.
 -- Assumes nothing.
-use mathlib.Core.Bool.{Bool}
 use mathlib.Core.List.{List, [], _∷_, _++_, map}
 use Prim.Native.Nat.{ℕ, zero, suc, _+_, _*_}
 use lib.Dec.{eqb}

@@ -1,19 +1,19 @@
 -- What a pattern does: it has every number below K at one place and no other number, so interleaving and deinterleaving undo each other.
 -- Assumes nothing.
 use mathlib.Core.Path.{_≡_, refl, sym, ap, _∙_}
-use mathlib.Core.Bool.{Bool, true, false, cond, _&&_}
-use mathlib.Core.List.{List, [], _∷_, map}
-use Prim.Native.Nat.{ℕ, zero, suc, _+_, _≤_, _<_}
+use mathlib.Core.Bool.{true}
+use mathlib.Core.List.{List, [], _∷_}
+use Prim.Native.Nat.{ℕ, zero, suc, _+_, _<_}
 use native.Mathlib.Omega.{arith}
 use lib.Dec.{eqb, ltb}
 use native.Mathlib.Decide.{ℕ-discrete}
 use lib.ListN.{length, getD, set, length-map}
 use lib.Seq.{ext-getD, getD-set-same, getD-set-other}
-use borrow.Author.Tests.{eqb-true, eqb-false, eq-eqb, ltb-true, ltb-false, lt-ltb, le-ltb}
-use Rattle.lists.specs.Lists.{count, listed}
+use borrow.Author.Tests.{eqb-true, eq-eqb, ltb-true, lt-ltb}
+use Rattle.lists.specs.Lists.{count}
 use Rattle.lists.specs.Listed.{listed-length, listed-at}
 use Rattle.lists.specs.Every.{every-upto-at, at-every-upto}
-use Rattle.lists.specs.Stores.{Filled, filled-all}
+use Rattle.lists.specs.Stores.{Filled}
 use Rattle.turbo.specs.Interleaver.{permutes, place, interleave, deinterleave}
 use Rattle.turbo.specs.Counting.{place-holds, place-only, sumTo, sum-ones, sum-counts, sum-tight, count-all, count-every, Distinct, distinct-once}
 

@@ -8,7 +8,7 @@ use lib.Dec.{leb, ltb}
 use lib.ListN.{length}
 use Rattle.lists.specs.Lists.{every}
 use Rattle.refusal.specs.declared.Reply.{Reply}
-use Rattle.trellis.specs.Table.{Table, tableOf, shaped, branched}
+use Rattle.trellis.specs.Table.{tableOf, shaped, branched}
 use Rattle.turbo.specs.Interleaver.{permutes}
 use Rattle.turbo.specs.Frame.{Frame, sizesFit, masksFit, codes, frameLength}
 use Rattle.turbo.specs.Coder.{EncodeCall, EncodeResult}

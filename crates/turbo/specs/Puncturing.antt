@@ -1,13 +1,13 @@
 -- Puncturing and spreading, one place at a time; and that a spread frame has every sent value in its place and d elsewhere.
 -- Assumes nothing.
-use mathlib.Core.Path.{_≡_, refl, sym, ap, ap₂, _∙_}
+use mathlib.Core.Path.{_≡_, refl, sym, ap, _∙_}
 use mathlib.Core.Bool.{Bool, true, false, cond}
 use mathlib.Core.List.{List, [], _∷_, _++_, append-nil}
-use Prim.Native.Nat.{ℕ, zero, suc, _+_, _≤_, _<_}
+use Prim.Native.Nat.{ℕ, zero, suc, _+_, _<_}
 use native.Mathlib.Nat.{suc-inj, suc-ne-zero}
 use native.Mathlib.Numerals.{add-one}
 use native.Mathlib.Omega.{arith}
-use lib.ListN.{length, getD, take, set, length-set}
+use lib.ListN.{length, getD, take, set}
 use lib.Seq.{take-suc, take-suc-set, take-all, length-take-le}
 use Rattle.lists.specs.Lists.{count}
 use Rattle.lists.specs.Counts.{count-take, count-part}
@@ -42,6 +42,13 @@ module _ {A : Type 0} where
   unfolding puncture
   puncture-one true x = refl
   puncture-one false x = refl
+
+  pub puncture-length : (fs : List Bool) (xs : List A) → length xs ≡ length fs → length (puncture fs xs) ≡ count (λ (b : Bool). b) fs
+  unfolding puncture count
+  puncture-length [] xs e = refl
+  puncture-length (f ∷ fs) [] e = absurd (suc-ne-zero (length fs) (sym e))
+  puncture-length (true ∷ fs) (x ∷ xs) e = ap suc (puncture-length fs xs (suc-inj e))
+  puncture-length (false ∷ fs) (x ∷ xs) e = puncture-length fs xs (suc-inj e)
 
   module _ (d : A) (fs : List Bool) (xs : List A) (same : length xs ≡ length fs) where
     -- the sent values of the places before i
@@ -106,8 +113,8 @@ module _ {A : Type 0} where
         getD (spread d fs (puncture fs xs)) i d ≡ cond (getD fs i false) (getD xs i d) d
     unfolding spread puncture
     spread-punctured [] xs i e = refl
-    spread-punctured (f ∷ fs) [] i e = absurd (omega (arith, e))
+    spread-punctured (f ∷ fs) [] i e = absurd (suc-ne-zero (length fs) (sym e))
     spread-punctured (true ∷ fs) (x ∷ xs) zero e = refl
-    spread-punctured (true ∷ fs) (x ∷ xs) (suc i) e = spread-punctured fs xs i (omega (arith, e))
+    spread-punctured (true ∷ fs) (x ∷ xs) (suc i) e = spread-punctured fs xs i (suc-inj e)
     spread-punctured (false ∷ fs) (x ∷ xs) zero e = refl
-    spread-punctured (false ∷ fs) (x ∷ xs) (suc i) e = spread-punctured fs xs i (omega (arith, e))
+    spread-punctured (false ∷ fs) (x ∷ xs) (suc i) e = spread-punctured fs xs i (suc-inj e)

@@ -8,7 +8,7 @@ ghost use Rattle.lists.specs.Lists.{every};
 ghost use Rattle.refusal.specs.declared.Refusal.the-variants.{Bit, Pattern, Mask, Coder};
 ghost use Rattle.refusal.specs.Refusals.{check, _then_};
 ghost use Rattle.trellis.specs.Table.{tableOf, systematic};
-ghost use Rattle.turbo.specs.Coder.{encodeChecked, encodeListsFit};
+ghost use Rattle.turbo.specs.Coder.{encodeChecked};
 ghost use Rattle.turbo.specs.Frame.{lengthUnder};
 ghost use Rattle.turbo.specs.Interleaver.{permutes as permutesTo};
 ghost use Rattle.turbo.specs.Lent.{encodeOf, goodMasks};

@@ -11,7 +11,6 @@ mod tail;
 
 pub use house::house_next;
 pub use house::house_words;
-use refusal::Refusal;
 use refusal::Reply;
 
 // The frame sent for a message, a bit an entry.

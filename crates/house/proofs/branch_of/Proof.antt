@@ -1,6 +1,6 @@
 -- `house::branch_of` meets its contract: the state equations, one exclusive or at a time.
 -- Assumes nothing.
-use mathlib.Core.Path.{_≡_, refl, ap, ap₂, _∙_}
+use mathlib.Core.Path.{ap, _∙_}
 use Prim.Native.Nat.{ℕ, _+_, _*_, _%_, _/_}
 use native.Mathlib.Omega.{arith}
 use lib.Bits.{bitXor}

@@ -1,6 +1,6 @@
 -- `siso::decode` meets its contract: a call that the checks refuse leaves everything as it was, and any other is a pass.
 -- Assumes nothing.
-use mathlib.Core.Path.{_≡_, sym, _∙_}
+use mathlib.Core.Path.{sym, _∙_}
 use borrow.Author.Needs.{needs}
 use Rattle.siso.specs.Accepted.{accepted}
 use Rattle.siso.specs.Settled.{decode-refused, decode-walked}

@@ -1,6 +1,6 @@
 -- `turbo::encode` meets its contract: a call that the checks refuse leaves the list as it was, and any other is coded.
 -- Assumes nothing.
-use mathlib.Core.Path.{_≡_, sym, _∙_}
+use mathlib.Core.Path.{sym, _∙_}
 use borrow.Author.Needs.{needs}
 use Rattle.turbo.specs.Encoded.{encode-refused, encode-coded, codable}
 use Rattle.turbo.proofs.encode.Statement.{statement}

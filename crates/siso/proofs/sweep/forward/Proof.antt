@@ -3,7 +3,7 @@
 -- Assumes nothing.
 use mathlib.Core.Path.{_≡_, refl, sym, ap, _∙_}
 use mathlib.Core.List.{List}
-use Prim.Native.Nat.{ℕ, suc, _+_, _*_, _-_, _≤_, _<_}
+use Prim.Native.Nat.{ℕ, suc, _+_, _*_, _-_, _≤_}
 use native.Mathlib.Numerals.{add-one}
 use native.Mathlib.Omega.{arith}
 use lib.IntN.{pos}
@@ -16,7 +16,7 @@ use Rattle.trellis.specs.Path.{Values, aprioriAt}
 use Rattle.trellis.specs.Sweeps.{home, forward, forward-start}
 use Rattle.siso.specs.declared.metric.Metric.{Metric}
 use Rattle.siso.specs.Held.{row}
-use Rattle.siso.specs.Lent.{valuesOf, Pass, Forward}
+use Rattle.siso.specs.Lent.{valuesOf, Forward}
 use Rattle.siso.specs.Passed.{table-limits, few-sections, table-branches}
 use Rattle.siso.specs.Gathered.{Gathered, part-length, part-within, gathered, gathered-gains}
 use Rattle.siso.specs.Steps.{Agree, next-forward, forward-held}

@@ -1,16 +1,14 @@
 -- `siso::sweep::run` meets its contract: the last forward row tells whether there is a path, and the backward sweep writes the lists.
 -- Assumes nothing.
 use mathlib.Core.Path.{_≡_, sym, ap, _∙_}
-use mathlib.Core.Bool.{Bool, true, false, not}
-use Prim.Native.Nat.{ℕ, _+_, _*_}
+use mathlib.Core.Bool.{not}
 use native.Mathlib.Omega.{arith}
-use lib.IntN.{ℤ, pos}
+use lib.IntN.{pos}
 use lib.ListN.{length, replicate}
 use borrow.Author.Needs.{needs}
 use Rattle.lists.specs.Lists.{found}
 use Rattle.trellis.specs.Outcome.{pathless}
 use Rattle.trellis.specs.Table.{tableOf}
-use Rattle.siso.specs.Lent.{callOf, lentOf}
 use Rattle.siso.specs.Passed.{table-limits}
 use Rattle.siso.specs.Settled.{reached-is, settled-none, settled-done}
 use Rattle.siso.proofs.sweep.run.Statement.{statement}
