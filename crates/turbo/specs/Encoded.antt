@@ -1,17 +1,22 @@
 -- A call of the coder: one that the checks refuse leaves the list as it was, and of any other all that the coder relies on is known.
 -- Assumes nothing.
-use mathlib.Core.Path.{_≡_}
+use mathlib.Core.Path.{_≡_, sym, ap, ap₂, subst, _∙_}
 use mathlib.Core.List.{List}
 use Prim.Native.Nat.{ℕ}
+use native.Mathlib.Omega.{arith}
+use lib.Dec.{eqb}
 use borrow.Author.Tests.{eqb-true}
-use Rattle.lists.specs.Tests.{and-both}
+use Rattle.lists.specs.Tests.{and-right, and-both}
 use Rattle.refusal.specs.declared.Refusal.{Refusal}
 use Rattle.refusal.specs.declared.Refusal.the-variants.{Shape, Branch, Length, Lists, Bit, Pattern, Mask, Coder}
 use Rattle.refusal.specs.declared.Reply.the-variants.{Done, Refused}
 use Rattle.refusal.specs.Refusals.{after}
 use Rattle.refusal.specs.Checks.{check-is-done, first-passed, done-then, refused-then}
+use Rattle.trellis.specs.Table.{systematic}
+use Rattle.trellis.specs.Branches.{shaped-is}
+use Rattle.turbo.specs.Frame.{codes}
 use Rattle.turbo.specs.Coder.{EncodeCall, encodeListsFit, encodeChecked, tailed, encodeReply, encodeSettled, encode}
-use Rattle.turbo.specs.Lent.{encodedOf, Codable}
+use Rattle.turbo.specs.Lent.{encodeOf, readCall, encodedOf, Codable}
 
 module _ (c : EncodeCall) (sent : List ℕ) where
   pub encode-refused : (r : Refusal) → encodeChecked c sent ≡ Refused r → encodedOf (Refused r) sent ≡ encode c sent
@@ -49,3 +54,29 @@ module _ (c : EncodeCall) (sent : List ℕ) where
         bits = bits;
         sent-long = eqb-true _ _ (rw masks at frame);
       }
+
+-- ---- the call by the lists alone
+
+module _ (states outputs : ℕ) (next words : List ℕ) (bits tail : ℕ) (message pattern masks sent : List ℕ)
+    (passed : encodeChecked (encodeOf states outputs next words bits tail message pattern masks) sent ≡ Done) where
+  abbrev lent : EncodeCall
+  lent = encodeOf states outputs next words bits tail message pattern masks
+
+  abbrev read : EncodeCall
+  read = readCall next words bits tail message pattern masks
+
+  read-is-lent : lent ≡ read
+  unfolding codes
+  read-is-lent =
+      let framed = codable lent sent passed .framed in
+      let shape = shaped-is (lent .frame .table) (framed .shape) in
+      ap₂
+      (λ (s o : ℕ). encodeOf s o next words bits tail message pattern masks)
+      (omega (arith, shape .next-length))
+      (eqb-true outputs 2 (and-right (systematic (lent .frame .table)) (eqb outputs 2) (framed .codes)))
+
+  pub read-codable : Codable (read .frame) message sent
+  read-codable = subst (λ (c : EncodeCall). Codable (c .frame) (c .message) sent) read-is-lent (codable lent sent passed)
+
+  pub read-coded : encodeSettled (tailed read) read sent ≡ encode lent sent
+  read-coded = sym (ap (λ (c : EncodeCall). encodeSettled (tailed c) c sent) read-is-lent) ∙ encode-coded lent sent passed

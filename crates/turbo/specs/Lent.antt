@@ -3,7 +3,7 @@
 use mathlib.Core.Path.{_≡_}
 use mathlib.Core.Bool.{Bool, true, _&&_}
 use mathlib.Core.List.{List}
-use Prim.Native.Nat.{ℕ}
+use Prim.Native.Nat.{ℕ, _/_}
 use lib.Dec.{leb, ltb}
 use lib.ListN.{length}
 use Rattle.lists.specs.Lists.{every}
@@ -27,6 +27,10 @@ encodeOf states outputs next words bits tail message pattern masks = record {
   frame = frameOf states outputs next words bits tail pattern masks;
   message = message;
 }
+
+-- the same by the lists alone, as it is coded: a table that passed the checks has half as many states as branches, and two outputs
+abbrev pub readCall : List ℕ → List ℕ → ℕ → ℕ → List ℕ → List ℕ → List ℕ → EncodeCall
+readCall next words bits tail message pattern masks = encodeOf (length next / 2) 2 next words bits tail message pattern masks
 
 -- the frame's test of its masks, over the list alone
 abbrev pub goodMasks : List ℕ → Bool

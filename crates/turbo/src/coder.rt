@@ -7,7 +7,7 @@ ghost use Rattle.turbo.specs.Coder.{tailed, encodeSettled};
 ghost use Rattle.turbo.specs.Coding.{Coded};
 ghost use Rattle.turbo.specs.Interleaver.{interleave};
 ghost use Rattle.turbo.specs.Interleaving.{Permutes};
-ghost use Rattle.turbo.specs.Lent.{frameOf, encodeOf, encodedOf, Codable};
+ghost use Rattle.turbo.specs.Lent.{readCall, encodedOf, Codable};
 ghost use Rattle.turbo.specs.Sections.{bitsOf, Leads};
 ghost use Rattle.turbo.specs.Walking.{Walked, Continued};
 use crate::frame::puncture;
@@ -108,8 +108,6 @@ fn blank() -> [u8; 4096]
 
 // Codes what the checks accepted.
 pub fn run(
-    states: usize,
-    outputs: usize,
     next: &[u8],
     words: &[u8],
     bits: usize,
@@ -119,8 +117,8 @@ pub fn run(
     masks: &[u8],
     sent: &mut [u8],
 ) -> Reply
-    requires { ⌜ Codable (frameOf states outputs (now next) (now words) bits tail (now pattern) (now masks)) (now message) (now sent) ⌝ }
-    ensures { λ r. ⌜ encodedOf r (now (sent .exit)) ≡ encodeSettled (tailed (encodeOf states outputs (now (next .entry)) (now (words .entry)) bits tail (now (message .entry)) (now (pattern .entry)) (now (masks .entry)))) (encodeOf states outputs (now (next .entry)) (now (words .entry)) bits tail (now (message .entry)) (now (pattern .entry)) (now (masks .entry))) (now (sent .entry)) ⌝ }
+    requires { ⌜ Codable (readCall (now next) (now words) bits tail (now message) (now pattern) (now masks) .frame) (now message) (now sent) ⌝ }
+    ensures { λ r. ⌜ encodedOf r (now (sent .exit)) ≡ encodeSettled (tailed (readCall (now (next .entry)) (now (words .entry)) bits tail (now (message .entry)) (now (pattern .entry)) (now (masks .entry)))) (readCall (now (next .entry)) (now (words .entry)) bits tail (now (message .entry)) (now (pattern .entry)) (now (masks .entry))) (now (sent .entry)) ⌝ }
 {
     let end = bits + tail;
     let mut first = blank();

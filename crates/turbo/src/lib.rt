@@ -43,16 +43,5 @@ pub fn encode(
     if let Reply::Refused(_) = reply {
         return reply;
     }
-    coder::run(
-        states,
-        outputs,
-        next,
-        words,
-        bits,
-        tail,
-        message,
-        pattern,
-        masks,
-        sent,
-    )
+    coder::run(next, words, bits, tail, message, pattern, masks, sent)
 }

@@ -1,10 +1,21 @@
 -- `turbo::encode` meets its contract: a call that the checks refuse leaves the list as it was, and any other is coded.
 -- Assumes nothing.
-use mathlib.Core.Path.{sym, _∙_}
+use mathlib.Core.Path.{_≡_, sym, _∙_}
 use borrow.Author.Needs.{needs}
-use Rattle.turbo.specs.Encoded.{encode-refused, encode-coded, codable}
+use Rattle.refusal.specs.declared.Reply.the-variants.{Done}
+use Rattle.turbo.specs.Coder.{encodeChecked}
+use Rattle.turbo.specs.Lent.{encodeOf}
+use Rattle.turbo.specs.Encoded.{encode-refused, read-codable, read-coded}
 use Rattle.turbo.proofs.encode.Statement.{statement}
 use Rattle.turbo.proofs.encode.Tie as tie
+
+abbrev start : tie.After-encode-reply → tie.Start
+start c = c .before .before .before .before .before .before .before .before
+
+-- the checks are done
+passed : (c : tie.After-enum-told2) → let a = start (c .before .before) .args in
+    encodeChecked (encodeOf (a .states) (a .outputs) (a .next .now) (a .words .now) (a .bits) (a .tail) (a .message .now) (a .pattern .now) (a .masks .now)) (a .sent .now) ≡ Done
+passed c = sym (c .before .before .encode-reply .ensures) ∙ c .enum-told2 .given .1
 
 encode-reply-requires : tie.Need-encode-reply-requires
 encode-reply-requires c κs = search needs
@@ -22,9 +33,7 @@ enum-told-2 : tie.Need-enum-told-2
 enum-told-2 c = search needs
 
 run-requires : tie.Need-run-requires
-run-requires c κs =
-    let told = c .before in
-    codable _ _ (sym (told .before .before .encode-reply .ensures) ∙ told .enum-told2 .given .1)
+run-requires c κs = read-codable _ _ _ _ _ _ _ _ _ _ (passed (c .before))
 
 same-length-2 : tie.Need-same-length-2
 same-length-2 c = search needs
@@ -32,8 +41,7 @@ same-length-2 c = search needs
 returns-2 : tie.Need-returns-2
 returns-2 c =
     let ran = c .before .before in
-    let told = ran .before .before in
-    ran .run .ensures ∙ encode-coded _ _ (sym (told .before .before .encode-reply .ensures) ∙ told .enum-told2 .given .1)
+    ran .run .ensures ∙ read-coded _ _ _ _ _ _ _ _ _ _ (passed (ran .before .before))
 
 pub encode-spec : {M : Type 1} → statement M
 encode-spec =

@@ -10,7 +10,7 @@ use Rattle.turbo.specs.Bits.{bits-tested}
 use Rattle.turbo.specs.Checked.{Checked, checked}
 use Rattle.turbo.specs.Coding.{has-tail, has-no-tail, sent-by-words, no-first-tail, no-second-tail, settled-none, settled-some}
 use Rattle.turbo.specs.Frame.{Frame, frameLength, flags}
-use Rattle.turbo.specs.Lent.{frameOf}
+use Rattle.turbo.specs.Lent.{readCall}
 use Rattle.turbo.proofs.Lending.{Back, front-long, front-back}
 use Rattle.turbo.proofs.coder.run.Statement.{statement}
 use Rattle.turbo.proofs.coder.run.Tie as tie
@@ -19,7 +19,7 @@ use Rattle.turbo.proofs.coder.run.Tie as tie
 abbrev frame : tie.Start → Frame
 frame c =
     let a = c .args in
-    frameOf (a .states) (a .outputs) (a .next .now) (a .words .now) (a .bits) (a .tail) (a .pattern .now) (a .masks .now)
+    readCall (a .next .now) (a .words .now) (a .bits) (a .tail) (a .message .now) (a .pattern .now) (a .masks .now) .frame
 
 known : (c : tie.Start) → Checked (frame c)
 known c = checked (frame c) (c .pre .framed)
