@@ -1,12 +1,12 @@
 // Numbers that look drawn at random, always the same ones.
 
 // The next seed.
-fn next(seed: u32) -> u32 {
+pub fn next(seed: u32) -> u32 {
     ((seed as u64 * 1664525 + 1013904223) % 4294967296) as u32
 }
 
 // A number below n, from the seed's higher half.
-fn below(seed: u32, n: usize) -> usize {
+pub fn below(seed: u32, n: usize) -> usize {
     if n == 0 {
         return 0;
     }
@@ -25,7 +25,7 @@ fn value(seed: u32, limit: u16) -> i16 {
 }
 
 // Fills a table list with numbers below a limit; returns the next seed.
-fn fill_bytes(seed: u32, limit: usize, xs: &mut [u8]) -> u32 {
+pub fn fill_bytes(seed: u32, limit: usize, xs: &mut [u8]) -> u32 {
     let mut s = seed;
     let mut i: usize = 0;
     while i < xs.len() {
@@ -37,7 +37,7 @@ fn fill_bytes(seed: u32, limit: usize, xs: &mut [u8]) -> u32 {
 }
 
 // Fills a list of values; returns the next seed.
-fn fill_values(seed: u32, limit: u16, xs: &mut [i16]) -> u32 {
+pub fn fill_values(seed: u32, limit: u16, xs: &mut [i16]) -> u32 {
     let mut s = seed;
     let mut i: usize = 0;
     while i < xs.len() {
@@ -59,7 +59,7 @@ fn make_systematic(words: &mut [u8]) {
 }
 
 // Fills a table's words with numbers below a limit, systematic where asked; returns the next seed.
-fn fill_words(seed: u32, limit: usize, systematic: bool, words: &mut [u8]) -> u32 {
+pub fn fill_words(seed: u32, limit: usize, systematic: bool, words: &mut [u8]) -> u32 {
     let s = fill_bytes(seed, limit, words);
     if !systematic {
         return s;
@@ -68,19 +68,36 @@ fn fill_words(seed: u32, limit: usize, systematic: bool, words: &mut [u8]) -> u3
     s
 }
 
-// Fills a table and the values of a call, up to the largest that the decoder takes; returns the next seed.
-pub fn fill(
-    seed: u32,
-    systematic: bool,
-    states: usize,
-    word_limit: usize,
-    next: &mut [u8],
-    words: &mut [u8],
-    channel: &mut [i16],
-    apriori: &mut [i16],
-) -> u32 {
-    let s1 = fill_bytes(seed, states, next);
-    let s2 = fill_words(s1, word_limit, systematic, words);
-    let s3 = fill_values(s2, 1023, channel);
-    fill_values(s3, 8191, apriori)
+// The seed 101 draws on.
+pub fn later(seed: u32) -> u32 {
+    ((seed as u64 * 1617689565 + 1992730467) % 4294967296) as u32
+}
+
+// The seed of another list, by its number.
+pub fn other(seed: u32, list: u32) -> u32 {
+    ((seed as u64 + list as u64 * 2654435769) % 4294967296) as u32
+}
+
+// Puts a value at a place, where asked.
+pub fn put(xs: &mut [u8], asked: bool, at: usize, value: usize) {
+    if asked && at < xs.len() {
+        xs[at] = (value % 256) as u8;
+    }
+}
+
+// The numbers below n, up to 16, in a drawn order: each next one takes a drawn place among the first, and the one from there goes last.
+pub fn permutation(seed: u32, n: usize) -> [u32; 16] {
+    let mut xs = [0u32; 16];
+    let mut s = seed;
+    let mut i: usize = 0;
+    while i < n {
+        s = next(s);
+        let last = i % 16;
+        let at = below(s, last + 1) % 16;
+        let moved = xs[at];
+        xs[last] = moved;
+        xs[at] = last as u32;
+        i += 1;
+    }
+    xs
 }

@@ -7,12 +7,11 @@ pub struct Walk {
     pub metric: i32,
 }
 
-// The best metrics of each position, by bit; of `has`, 0 stands for none.
+// The best metrics of each position k, with bit b there, at 2·k + b; of `has`, 0 stands for none. And whether there is a path.
 pub struct Best {
-    pub zero: [i32; 16],
-    pub one: [i32; 16],
-    pub has_zero: [u8; 16],
-    pub has_one: [u8; 16],
+    pub any: bool,
+    pub metric: [i32; 32],
+    pub has: [u8; 32],
 }
 
 // Bit i of a number.
@@ -106,16 +105,9 @@ fn larger(has: u8, x: i32, y: i32) -> i32 {
 // The best metrics with one path's taken in at one position.
 fn taken_at(best: Best, k: usize, b: usize, metric: i32) -> Best {
     let mut out = best;
-    if 15 < k {
-        return out;
-    }
-    if b == 0 {
-        out.zero[k] = larger(out.has_zero[k], out.zero[k], metric);
-        out.has_zero[k] = 1;
-        return out;
-    }
-    out.one[k] = larger(out.has_one[k], out.one[k], metric);
-    out.has_one[k] = 1;
+    let at = (k % 16) * 2 + b % 2;
+    out.metric[at] = larger(out.has[at], out.metric[at], metric);
+    out.has[at] = 1;
     out
 }
 
@@ -135,10 +127,12 @@ fn taken(best: Best, sections: usize, path: usize, metric: i32) -> Best {
 
 // The best metrics with one path's taken in, if it ends in state 0.
 fn offered(best: Best, sections: usize, path: usize, w: Walk) -> Best {
-    if w.state == 0 {
-        return taken(best, sections, path, w.metric);
+    if w.state != 0 {
+        return best;
     }
-    best
+    let mut out = taken(best, sections, path, w.metric);
+    out.any = true;
+    out
 }
 
 // The best metrics of all paths, of which there are `count` lists of bits.
@@ -152,10 +146,9 @@ pub fn list(
     count: usize,
 ) -> Best {
     let mut best = Best {
-        zero: [0; 16],
-        one: [0; 16],
-        has_zero: [0; 16],
-        has_one: [0; 16],
+        any: false,
+        metric: [0; 32],
+        has: [0; 32],
     };
     let mut path: usize = 0;
     while path < count {

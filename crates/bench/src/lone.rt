@@ -1,272 +1,18 @@
 // The lone decoder against the plain listing, over drawn tables of every size.
 use crate::draw;
 use crate::listing;
-use crate::listing::Best;
+use crate::outcomes;
+use crate::outcomes::Answer;
+use crate::reply;
 use crate::safe;
-use refusal::Refusal;
-use refusal::Reply;
+use crate::tally;
+use crate::tally::Tally;
 ghost use Prim.Native.Nat.{_≤_};
-
-// How many calls agreed with the listing, how many of them had no path, how many positions were free and forced, and what did not agree.
-struct Tally {
-    calls: usize,
-    pathless: usize,
-    free: usize,
-    forced: usize,
-    wrong: usize,
-}
-
-// What the three lists say of a position, and what the pass was told of it.
-struct Written {
-    mark: u8,
-    margin: i32,
-    extrinsic: i32,
-    intrinsic: i32,
-}
-
-// Whether the words have their input bit as output 1.
-fn is_systematic(words: &[u8]) -> bool {
-    let mut i: usize = 0;
-    while i < words.len() {
-        if words[i] % 2 != (i % 2) as u8 {
-            return false;
-        }
-        i += 1;
-    }
-    true
-}
-
-fn told(sys: bool, apriori: i16, channel: i16) -> i32 {
-    if sys {
-        return safe::sum(apriori as i32, channel as i32);
-    }
-    apriori as i32
-}
-
-// Whether a number is below a million in size: of such numbers the sums below are exact, and every right answer is one.
-fn is_small(x: i32) -> bool {
-    -1000000 < x && x < 1000000
-}
-
-// A free position: twice the margin is the difference of the best metrics, and the extrinsic is the margin without what was told.
-fn free_agrees(zero: i32, one: i32, w: Written) -> bool {
-    let margin = w.margin;
-    let extrinsic = w.extrinsic;
-    let intrinsic = w.intrinsic;
-    if w.mark != 2 {
-        return false;
-    }
-    if !is_small(margin) {
-        return false;
-    }
-    if !is_small(extrinsic) {
-        return false;
-    }
-    if safe::sum(safe::sum(margin, margin), zero) != one {
-        return false;
-    }
-    safe::sum(extrinsic, intrinsic) == margin
-}
-
-fn forced_agrees(bit: u8, w: Written) -> bool {
-    if w.mark != bit {
-        return false;
-    }
-    if w.margin != 0 {
-        return false;
-    }
-    w.extrinsic == 0
-}
-
-// What a position shows: 0 that it does not agree, 1 that it is free, 2 that it is forced.
-fn verdict(best: Best, k: usize, w: Written) -> u8 {
-    if 15 < k {
-        return 0;
-    }
-    if best.has_zero[k] == 0 {
-        return if forced_agrees(1, w) { 2 } else { 0 };
-    }
-    if best.has_one[k] == 0 {
-        return if forced_agrees(0, w) { 2 } else { 0 };
-    }
-    if free_agrees(best.zero[k], best.one[k], w) {
-        1
-    } else {
-        0
-    }
-}
-
-// A position taken into the tally.
-fn counted(t: Tally, shown: u8) -> Tally {
-    let mut out = t;
-    match shown {
-        1 => {
-            out.free = safe::add(t.free, 1);
-        }
-        2 => {
-            out.forced = safe::add(t.forced, 1);
-        }
-        _ => {
-            out.wrong = safe::add(t.wrong, 1);
-        }
-    }
-    out
-}
-
-// What is written of position k, and what was told of it.
-fn written_at(
-    sys: bool,
-    outputs: usize,
-    channel: &[i16],
-    apriori: &[i16],
-    marks: &[u8],
-    margins: &[i32],
-    extrinsics: &[i32],
-    k: usize,
-) -> Written {
-    let first = safe::times(outputs, k);
-    Written {
-        mark: safe::byte(marks, k),
-        margin: safe::word(margins, k),
-        extrinsic: safe::word(extrinsics, k),
-        intrinsic: told(sys, safe::half(apriori, k), safe::half(channel, first)),
-    }
-}
-
-// Every position of a pass taken into the tally.
-fn positions(
-    t: Tally,
-    best: Best,
-    sys: bool,
-    outputs: usize,
-    sections: usize,
-    channel: &[i16],
-    apriori: &[i16],
-    marks: &[u8],
-    margins: &[i32],
-    extrinsics: &[i32],
-) -> Tally {
-    let mut out = t;
-    let mut k: usize = 0;
-    while k < sections {
-        let w = written_at(
-            sys,
-            outputs,
-            channel,
-            apriori,
-            marks,
-            margins,
-            extrinsics,
-            k,
-        );
-        let more = counted(out, verdict(best, k, w));
-        out = more;
-        k += 1;
-    }
-    out
-}
-
-fn all_zero(xs: &[i32]) -> bool {
-    let mut i: usize = 0;
-    while i < xs.len() {
-        if xs[i] != 0 {
-            return false;
-        }
-        i += 1;
-    }
-    true
-}
-
-fn one_call(t: Tally) -> Tally {
-    let mut out = t;
-    out.calls = safe::add(t.calls, 1);
-    out
-}
-
-fn one_wrong(t: Tally) -> Tally {
-    let mut out = t;
-    out.wrong = safe::add(t.wrong, 1);
-    out
-}
-
-fn one_pathless(t: Tally) -> Tally {
-    let mut out = t;
-    out.pathless = safe::add(t.pathless, 1);
-    out
-}
-
-// 0 for done, 12 for no path, 1 for any other refusal.
-fn kind(r: Reply) -> u8 {
-    match r {
-        Reply::Done => 0,
-        Reply::Refused(why) => match why {
-            Refusal::NoPath => 12,
-            _ => 1,
-        },
-    }
-}
 
 // A tally and the seed to go on with.
 struct Drawn {
     tally: Tally,
     seed: u32,
-}
-
-// How many lists of bits there are, of a number of bits up to 16.
-fn lists_of_bits(bits: usize) -> usize {
-    let mut n: usize = 1;
-    let mut k: usize = 0;
-    while k < bits {
-        n = safe::times(n, 2);
-        k += 1;
-    }
-    n
-}
-
-// One call checked against the listing.
-fn checked(
-    t: Tally,
-    best: Best,
-    shown: u8,
-    outputs: usize,
-    sections: usize,
-    words: &[u8],
-    channel: &[i16],
-    apriori: &[i16],
-    marks: &[u8],
-    margins: &[i32],
-    extrinsics: &[i32],
-    work: &[i32],
-) -> Tally {
-    if !all_zero(work) {
-        return one_wrong(t);
-    }
-    let none = best.has_zero[0] == 0 && best.has_one[0] == 0;
-    if shown == 12 {
-        return if none {
-            one_pathless(one_call(t))
-        } else {
-            one_wrong(t)
-        };
-    }
-    if shown != 0 {
-        return one_wrong(t);
-    }
-    if none {
-        return one_wrong(t);
-    }
-    positions(
-        one_call(t),
-        best,
-        is_systematic(words),
-        outputs,
-        sections,
-        channel,
-        apriori,
-        marks,
-        margins,
-        extrinsics,
-    )
 }
 
 // The length of the channel list: outputs times sections.
@@ -287,9 +33,20 @@ fn cells(states: usize, sections: usize) -> usize
     (sections + 1) * states
 }
 
-// One call of the decoder, checked against the listing.
-fn called(
-    t: Tally,
+// Whether the first n entries are 0.
+fn zeros(n: usize, xs: &[i32; 208]) -> bool {
+    let mut i: usize = 0;
+    while i < n {
+        if safe::word(xs, i) != 0 {
+            return false;
+        }
+        i += 1;
+    }
+    true
+}
+
+// One call of the decoder, with result lists of n entries and a working list of so many cells.
+pub fn called(
     states: usize,
     outputs: usize,
     sections: usize,
@@ -297,11 +54,16 @@ fn called(
     words: &[u8],
     channel: &[i16],
     apriori: &[i16],
-    marks: &mut [u8],
-    margins: &mut [i32],
-    extrinsics: &mut [i32],
-    work: &mut [i32],
-) -> Tally {
+    n: usize,
+    size: usize,
+) -> Answer
+    requires { ⌜ n ≤ 12 ⌝ }
+    requires { ⌜ size ≤ 208 ⌝ }
+{
+    let mut marks = [9u8; 12];
+    let mut margins = [99i32; 12];
+    let mut extrinsics = [99i32; 12];
+    let mut work = [7i32; 208];
     let r = siso::decode(
         states,
         outputs,
@@ -310,27 +72,49 @@ fn called(
         sections,
         channel,
         apriori,
-        marks,
-        margins,
-        extrinsics,
-        work,
+        &mut marks[..n],
+        &mut margins[..n],
+        &mut extrinsics[..n],
+        &mut work[..size],
     );
-    let count = lists_of_bits(sections);
-    let best = listing::list(next, words, outputs, sections, channel, apriori, count);
-    checked(
-        t,
-        best,
-        kind(r),
+    Answer {
+        number: reply::number(r),
+        clear: zeros(size, &work),
+        marks: marks,
+        margins: margins,
+        extrinsics: extrinsics,
+    }
+}
+
+// One call checked against the listing.
+fn compared(
+    t: Tally,
+    states: usize,
+    outputs: usize,
+    sections: usize,
+    next: &[u8],
+    words: &[u8],
+    channel: &[i16],
+    apriori: &[i16],
+) -> Tally
+    requires { ⌜ states ≤ 16 ⌝ }
+    requires { ⌜ sections ≤ 12 ⌝ }
+{
+    let size = cells(states, sections);
+    let a = called(
+        states,
         outputs,
         sections,
+        next,
         words,
         channel,
         apriori,
-        marks,
-        margins,
-        extrinsics,
-        work,
-    )
+        sections,
+        size,
+    );
+    let count = safe::power(sections);
+    let best = listing::list(next, words, outputs, sections, channel, apriori, count);
+    outcomes::checked(t, best, a, outputs, sections, words, channel, apriori)
 }
 
 // A table and values drawn into the lists, systematic where asked, and the call on them.
@@ -344,23 +128,15 @@ fn filled(
     words: &mut [u8],
     channel: &mut [i16],
     apriori: &mut [i16],
-    marks: &mut [u8],
-    margins: &mut [i32],
-    extrinsics: &mut [i32],
-    work: &mut [i32],
-) -> Drawn {
-    let word_limit = lists_of_bits(outputs);
-    let seed = draw::fill(
-        d.seed,
-        systematic,
-        states,
-        word_limit,
-        next,
-        words,
-        channel,
-        apriori,
-    );
-    let tally = called(
+) -> Drawn
+    requires { ⌜ states ≤ 16 ⌝ }
+    requires { ⌜ sections ≤ 12 ⌝ }
+{
+    let s1 = draw::fill_bytes(d.seed, states, next);
+    let s2 = draw::fill_words(s1, safe::power(outputs), systematic, words);
+    let s3 = draw::fill_values(s2, 1023, channel);
+    let seed = draw::fill_values(s3, 8191, apriori);
+    let tally = compared(
         d.tally,
         states,
         outputs,
@@ -369,10 +145,6 @@ fn filled(
         words,
         channel,
         apriori,
-        marks,
-        margins,
-        extrinsics,
-        work,
     );
     Drawn {
         tally: tally,
@@ -387,15 +159,10 @@ fn draw_one(c: usize, d: Drawn) -> Drawn {
     let sections = 1 + c / 5 % 12;
     let branches = 2 * states;
     let heard = values(outputs, sections);
-    let size = cells(states, sections);
     let mut next = [0u8; 32];
     let mut words = [0u8; 32];
     let mut channel = [0i16; 48];
     let mut apriori = [0i16; 12];
-    let mut marks = [0u8; 12];
-    let mut margins = [0i32; 12];
-    let mut extrinsics = [0i32; 12];
-    let mut work = [7i32; 208];
     filled(
         d,
         c % 3 == 0,
@@ -406,22 +173,12 @@ fn draw_one(c: usize, d: Drawn) -> Drawn {
         &mut words[..branches],
         &mut channel[..heard],
         &mut apriori[..sections],
-        &mut marks[..sections],
-        &mut margins[..sections],
-        &mut extrinsics[..sections],
-        &mut work[..size],
     )
 }
 
 fn all_drawn(cases: usize) -> Tally {
     let mut d = Drawn {
-        tally: Tally {
-            calls: 0,
-            pathless: 0,
-            free: 0,
-            forced: 0,
-            wrong: 0,
-        },
+        tally: tally::none(),
         seed: 2026,
     };
     let mut c: usize = 0;
@@ -439,9 +196,9 @@ pub fn run() {
         1,
         b"lone decoder against the listing of all paths: calls pathless free forced wrong\n",
     );
-    safe::print(t.calls, b" ");
-    safe::print(t.pathless, b" ");
-    safe::print(t.free, b" ");
-    safe::print(t.forced, b" ");
-    safe::print(t.wrong, b"\n");
+    tally::put(t, outcomes::CALLS);
+    tally::put(t, outcomes::PATHLESS);
+    tally::put(t, outcomes::FREE);
+    tally::put(t, outcomes::FORCED);
+    tally::end(t, outcomes::WRONG);
 }

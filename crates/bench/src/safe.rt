@@ -12,6 +12,10 @@ pub fn word(xs: &[i32], i: usize) -> i32 {
     if i < xs.len() { xs[i] } else { 0 }
 }
 
+pub fn number(xs: &[u32], i: usize) -> usize {
+    if i < xs.len() { xs[i] as usize } else { 0 }
+}
+
 // The sum of two numbers of at most 500,000,000 in size, and 0 of larger ones.
 pub fn sum(x: i32, y: i32) -> i32 {
     if x < -500000000 {
@@ -27,6 +31,22 @@ pub fn sum(x: i32, y: i32) -> i32 {
         return 0;
     }
     x + y
+}
+
+// The difference of two such numbers.
+pub fn minus(x: i32, y: i32) -> i32 {
+    if y < -500000000 {
+        return 0;
+    }
+    if 500000000 < y {
+        return 0;
+    }
+    sum(x, 0 - y)
+}
+
+// Half of a number, towards 0.
+pub fn halved(x: i32) -> i32 {
+    x / 2
 }
 
 // The sum of two numbers below 65,536, and 0 of larger ones.
@@ -51,8 +71,25 @@ pub fn times(x: usize, y: usize) -> usize {
     x * y
 }
 
-// A decimal number and a space or a line end after it.
-pub fn print(n: usize, after: &[u8]) {
+// 2 to the power n, of n up to 16.
+pub fn power(n: usize) -> usize {
+    let mut out: usize = 1;
+    let mut k: usize = 0;
+    while k < n {
+        out = times(out, 2);
+        k += 1;
+    }
+    out
+}
+
+// A decimal number and a space after it.
+pub fn put(n: usize) {
     io::print_decimal(1, n as u64);
-    io::write_all(1, after);
+    io::write_all(1, b" ");
+}
+
+// A decimal number and a line end after it.
+pub fn end(n: usize) {
+    io::print_decimal(1, n as u64);
+    io::write_all(1, b"\n");
 }

@@ -1,4 +1,4 @@
--- `bench::limits::same` is safe and ends. The invariant: the index is at most the count.
+-- `bench::limits::same` is safe and ends. The invariant: at most six positions are compared.
 -- Assumes nothing.
 use Prim.Native.Nat.{_-_, _≤_}
 use borrow.Author.Needs.{needs}
@@ -6,10 +6,10 @@ use Rattle.bench.proofs.limits.same.Statement.{statement}
 use Rattle.bench.proofs.limits.same.Tie as tie
 
 abbrev Inv-loop : tie.InvT-loop
-Inv-loop n a b c d count₀ i₀ count i = i ≤ n
+Inv-loop marks margins expected count₀ i₀ count i = i ≤ 6
 
 abbrev μ-loop : tie.MeasureT-loop
-μ-loop n a b c d count₀ i₀ count i = n - i
+μ-loop marks margins expected count₀ i₀ count i = 6 - i
 
 loop-holds : tie.Need-loop-holds Inv-loop μ-loop
 loop-holds c = search needs
@@ -17,14 +17,14 @@ loop-holds c = search needs
 byte-requires : tie.Need-byte-requires Inv-loop μ-loop
 byte-requires c κs = search needs
 
-byte-requires-2 : tie.Need-byte-requires-2 Inv-loop μ-loop
-byte-requires-2 c κs = search needs
-
 word-requires : tie.Need-word-requires Inv-loop μ-loop
 word-requires c κs = search needs
 
-word-requires-2 : tie.Need-word-requires-2 Inv-loop μ-loop
-word-requires-2 c κs = search needs
+mul-if3 : tie.Need-mul-if3 Inv-loop μ-loop
+mul-if3 c = search needs
+
+array-copy-out-if3 : tie.Need-array-copy-out-if3 Inv-loop μ-loop
+array-copy-out-if3 c = search needs
 
 add-requires : tie.Need-add-requires Inv-loop μ-loop
 add-requires c κs = search needs
@@ -49,9 +49,9 @@ same-spec =
     μ-loop
     loop-holds
     byte-requires
-    byte-requires-2
     word-requires
-    word-requires-2
+    mul-if3
+    array-copy-out-if3
     add-requires
     add-i
     loop-less

@@ -11,6 +11,9 @@ Inv-loop cases d₀ c₀ d c = c ≤ cases
 abbrev μ-loop : tie.MeasureT-loop
 μ-loop cases d₀ c₀ d c = cases - c
 
+none-requires : tie.Need-none-requires Inv-loop μ-loop
+none-requires c κs = search needs
+
 loop-holds : tie.Need-loop-holds Inv-loop μ-loop
 loop-holds c = search needs
 
@@ -32,4 +35,4 @@ returns c = search needs
 pub all-drawn-spec : {M : Type 1} → statement M
 all-drawn-spec =
     tie.close
-    (tie.spec Inv-loop μ-loop loop-holds draw-one-requires add-c loop-less loop-again returns)
+    (tie.spec Inv-loop μ-loop none-requires loop-holds draw-one-requires add-c loop-less loop-again returns)

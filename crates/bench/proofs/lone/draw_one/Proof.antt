@@ -21,9 +21,6 @@ mul-branches c = search needs
 values-requires : tie.Need-values-requires
 values-requires c κs = search needs
 
-cells-requires : tie.Need-cells-requires
-cells-requires c κs = search needs
-
 array-borrow-prefix-next : tie.Need-array-borrow-prefix-next
 array-borrow-prefix-next c = search needs
 
@@ -48,30 +45,6 @@ array-borrow-prefix-apriori c = search needs
 slice-aggregate-filled-4 : tie.Need-slice-aggregate-filled-4
 slice-aggregate-filled-4 c = simp length-take (omega arith)
 
-array-borrow-prefix-marks : tie.Need-array-borrow-prefix-marks
-array-borrow-prefix-marks c = search needs
-
-slice-aggregate-filled-5 : tie.Need-slice-aggregate-filled-5
-slice-aggregate-filled-5 c = simp length-take (omega arith)
-
-array-borrow-prefix-margins : tie.Need-array-borrow-prefix-margins
-array-borrow-prefix-margins c = search needs
-
-slice-aggregate-filled-6 : tie.Need-slice-aggregate-filled-6
-slice-aggregate-filled-6 c = simp length-take (omega arith)
-
-array-borrow-prefix-extrinsics : tie.Need-array-borrow-prefix-extrinsics
-array-borrow-prefix-extrinsics c = search needs
-
-slice-aggregate-filled-7 : tie.Need-slice-aggregate-filled-7
-slice-aggregate-filled-7 c = simp length-take (omega arith)
-
-array-borrow-prefix-work : tie.Need-array-borrow-prefix-work
-array-borrow-prefix-work c = search needs
-
-slice-aggregate-filled-8 : tie.Need-slice-aggregate-filled-8
-slice-aggregate-filled-8 c = simp length-take (omega arith)
-
 filled-requires : tie.Need-filled-requires
 filled-requires c κs = search needs
 
@@ -87,7 +60,6 @@ draw-one-spec =
     add-sections
     mul-branches
     values-requires
-    cells-requires
     array-borrow-prefix-next
     slice-aggregate-filled
     array-borrow-prefix-words
@@ -96,13 +68,5 @@ draw-one-spec =
     slice-aggregate-filled-3
     array-borrow-prefix-apriori
     slice-aggregate-filled-4
-    array-borrow-prefix-marks
-    slice-aggregate-filled-5
-    array-borrow-prefix-margins
-    slice-aggregate-filled-6
-    array-borrow-prefix-extrinsics
-    slice-aggregate-filled-7
-    array-borrow-prefix-work
-    slice-aggregate-filled-8
     filled-requires
     returns)

@@ -1,25 +1,24 @@
--- `bench::lone::all_zero` is safe and ends. The invariant: the index is at most the length.
+-- `bench::coder::same` is safe and ends. The invariant: the index is at most the length.
 -- Assumes nothing.
 use Prim.Native.Nat.{_-_, _≤_}
-use lib.ListN.{length}
 use borrow.Author.Needs.{needs}
-use Rattle.bench.proofs.lone.all_zero.Statement.{statement}
-use Rattle.bench.proofs.lone.all_zero.Tie as tie
+use Rattle.bench.proofs.coder.same.Statement.{statement}
+use Rattle.bench.proofs.coder.same.Tie as tie
 
 abbrev Inv-loop : tie.InvT-loop
-Inv-loop xs i₀ i = i ≤ length xs
+Inv-loop a b i₀ i = i ≤ 64
 
 abbrev μ-loop : tie.MeasureT-loop
-μ-loop xs i₀ i = length xs - i
+μ-loop a b i₀ i = 64 - i
 
 loop-holds : tie.Need-loop-holds Inv-loop μ-loop
 loop-holds c = search needs
 
-mul-if1 : tie.Need-mul-if1 Inv-loop μ-loop
-mul-if1 c = search needs
+array-read-if1 : tie.Need-array-read-if1 Inv-loop μ-loop
+array-read-if1 c = search needs
 
-shared-slice-copy-out-if1 : tie.Need-shared-slice-copy-out-if1 Inv-loop μ-loop
-shared-slice-copy-out-if1 c = search needs
+array-read-if1-2 : tie.Need-array-read-if1-2 Inv-loop μ-loop
+array-read-if1-2 c = search needs
 
 returns : tie.Need-returns Inv-loop μ-loop
 returns c = search needs
@@ -36,15 +35,15 @@ loop-again c = search needs
 returns-2 : tie.Need-returns-2 Inv-loop μ-loop
 returns-2 c = search needs
 
-pub all-zero-spec : {M : Type 1} → statement M
-all-zero-spec =
+pub same-spec : {M : Type 1} → statement M
+same-spec =
     tie.close
     (tie.spec
     Inv-loop
     μ-loop
     loop-holds
-    mul-if1
-    shared-slice-copy-out-if1
+    array-read-if1
+    array-read-if1-2
     returns
     add-i
     loop-less

@@ -1,25 +1,21 @@
--- `bench::lone::is_systematic` is safe and ends. The invariant: the index is at most the length.
+-- `bench::lone::zeros` is safe and ends. The invariant: the index is at most the count.
 -- Assumes nothing.
 use Prim.Native.Nat.{_-_, _≤_}
-use lib.ListN.{length}
 use borrow.Author.Needs.{needs}
-use Rattle.bench.proofs.lone.is_systematic.Statement.{statement}
-use Rattle.bench.proofs.lone.is_systematic.Tie as tie
+use Rattle.bench.proofs.lone.zeros.Statement.{statement}
+use Rattle.bench.proofs.lone.zeros.Tie as tie
 
 abbrev Inv-loop : tie.InvT-loop
-Inv-loop words i₀ i = i ≤ length words
+Inv-loop n xs i₀ i = i ≤ n
 
 abbrev μ-loop : tie.MeasureT-loop
-μ-loop words i₀ i = length words - i
+μ-loop n xs i₀ i = n - i
 
 loop-holds : tie.Need-loop-holds Inv-loop μ-loop
 loop-holds c = search needs
 
-shared-slice-read-if1 : tie.Need-shared-slice-read-if1 Inv-loop μ-loop
-shared-slice-read-if1 c = search needs
-
-cast-if1 : tie.Need-cast-if1 Inv-loop μ-loop
-cast-if1 c = search needs
+word-requires : tie.Need-word-requires Inv-loop μ-loop
+word-requires c κs = search needs
 
 returns : tie.Need-returns Inv-loop μ-loop
 returns c = search needs
@@ -36,15 +32,14 @@ loop-again c = search needs
 returns-2 : tie.Need-returns-2 Inv-loop μ-loop
 returns-2 c = search needs
 
-pub is-systematic-spec : {M : Type 1} → statement M
-is-systematic-spec =
+pub zeros-spec : {M : Type 1} → statement M
+zeros-spec =
     tie.close
     (tie.spec
     Inv-loop
     μ-loop
     loop-holds
-    shared-slice-read-if1
-    cast-if1
+    word-requires
     returns
     add-i
     loop-less

@@ -1,9 +1,9 @@
--- `bench::lone::told` is safe: each 16-bit value fits the wider type, and the sum guards itself.
+-- `bench::outcomes::told` is safe: each 16-bit value fits the wider type, and the sum guards itself.
 -- Assumes nothing.
 use borrow.Author.Needs.{needs}
 use Rattle.integers.specs.Linear.{plain, widen}
-use Rattle.bench.proofs.lone.told.Statement.{statement}
-use Rattle.bench.proofs.lone.told.Tie as tie
+use Rattle.bench.proofs.outcomes.told.Statement.{statement}
+use Rattle.bench.proofs.outcomes.told.Tie as tie
 
 cast-sum : tie.Need-cast-sum
 cast-sum c = let x = c .before .fits .apriori in simp plain (widen x)

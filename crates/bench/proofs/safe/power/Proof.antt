@@ -1,15 +1,15 @@
--- `bench::lone::lists_of_bits` is safe and ends. The invariant: at most all bits are counted.
+-- `bench::safe::power` is safe and ends. The invariant: at most n doublings are done.
 -- Assumes nothing.
 use Prim.Native.Nat.{_-_, _≤_}
 use borrow.Author.Needs.{needs}
-use Rattle.bench.proofs.lone.lists_of_bits.Statement.{statement}
-use Rattle.bench.proofs.lone.lists_of_bits.Tie as tie
+use Rattle.bench.proofs.safe.power.Statement.{statement}
+use Rattle.bench.proofs.safe.power.Tie as tie
 
 abbrev Inv-loop : tie.InvT-loop
-Inv-loop bits n₀ k₀ n k = k ≤ bits
+Inv-loop n out₀ k₀ out k = k ≤ n
 
 abbrev μ-loop : tie.MeasureT-loop
-μ-loop bits n₀ k₀ n k = bits - k
+μ-loop n out₀ k₀ out k = n - k
 
 loop-holds : tie.Need-loop-holds Inv-loop μ-loop
 loop-holds c = search needs
@@ -29,7 +29,7 @@ loop-again c = search needs
 returns : tie.Need-returns Inv-loop μ-loop
 returns c = search needs
 
-pub lists-of-bits-spec : {M : Type 1} → statement M
-lists-of-bits-spec =
+pub power-spec : {M : Type 1} → statement M
+power-spec =
     tie.close
     (tie.spec Inv-loop μ-loop loop-holds times-requires add-k loop-less loop-again returns)

@@ -1,16 +1,15 @@
--- `bench::lone::positions` is safe and ends. The invariant: at most all positions are taken in.
+-- `bench::outcomes::positions` is safe and ends. The invariant: at most all positions are taken in.
 -- Assumes nothing.
 use Prim.Native.Nat.{_-_, _≤_}
-use native.Mathlib.Omega.{arith}
 use borrow.Author.Needs.{needs}
-use Rattle.bench.proofs.lone.positions.Statement.{statement}
-use Rattle.bench.proofs.lone.positions.Tie as tie
+use Rattle.bench.proofs.outcomes.positions.Statement.{statement}
+use Rattle.bench.proofs.outcomes.positions.Tie as tie
 
 abbrev Inv-loop : tie.InvT-loop
-Inv-loop best sys outputs sections channel apriori marks margins extrinsics out₀ k₀ out k = k ≤ sections
+Inv-loop best a sys outputs sections channel apriori out₀ k₀ out k = k ≤ sections
 
 abbrev μ-loop : tie.MeasureT-loop
-μ-loop best sys outputs sections channel apriori marks margins extrinsics out₀ k₀ out k = sections - k
+μ-loop best a sys outputs sections channel apriori out₀ k₀ out k = sections - k
 
 loop-holds : tie.Need-loop-holds Inv-loop μ-loop
 loop-holds c = search needs
@@ -21,11 +20,11 @@ written-at-requires c κs = search needs
 verdict-requires : tie.Need-verdict-requires Inv-loop μ-loop
 verdict-requires c κs = search needs
 
-counted-requires : tie.Need-counted-requires Inv-loop μ-loop
-counted-requires c κs = search needs
+one-more-requires : tie.Need-one-more-requires Inv-loop μ-loop
+one-more-requires c κs = search needs
 
 add-k : tie.Need-add-k Inv-loop μ-loop
-add-k c = omega (arith, c .before .before .before .before .before .before .fits .sections)
+add-k c = search needs
 
 loop-less : tie.Need-loop-less Inv-loop μ-loop
 loop-less c = search needs
@@ -45,7 +44,7 @@ positions-spec =
     loop-holds
     written-at-requires
     verdict-requires
-    counted-requires
+    one-more-requires
     add-k
     loop-less
     loop-again
