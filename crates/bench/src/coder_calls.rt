@@ -143,9 +143,9 @@ fn has(p: Plan, fault: usize) -> bool {
 
 // A list of numbers below a limit, with a value put at a drawn place below len where asked.
 fn bytes(seed: u32, limit: usize, asked: bool, len: usize, value: usize) -> [u8; 40] {
-    let mut xs = [0u8; 40];
-    let s = draw::fill_bytes(seed, limit, &mut xs);
-    draw::put(&mut xs, asked, draw::below(s, len), value);
+    let at = draw::below(draw::later(seed), len);
+    let mut xs = draw::bytes(seed, limit);
+    draw::put(&mut xs, asked, at, value);
     xs
 }
 
@@ -156,9 +156,9 @@ pub fn next_states(p: Plan) -> [u8; 40] {
 // Words with their input bit as output 1, but for the faults.
 pub fn words(p: Plan) -> [u8; 40] {
     let limit = safe::power(p.outputs);
-    let mut xs = [0u8; 40];
-    let s = draw::fill_words(draw::other(p.seed, 2), limit, true, &mut xs);
-    let at = draw::below(s, p.words_len);
+    let seed = draw::other(p.seed, 2);
+    let at = draw::below(draw::later(seed), p.words_len);
+    let mut xs = draw::words(seed, limit, true);
     draw::put(&mut xs, has(p, WORD), at, limit);
     draw::put(&mut xs, has(p, NOT_SYSTEMATIC), at, 1 - at % 2);
     xs

@@ -24,8 +24,8 @@ fn value(seed: u32, limit: u16) -> i16 {
     }
 }
 
-// Fills a table list with numbers below a limit; returns the next seed.
-pub fn fill_bytes(seed: u32, limit: usize, xs: &mut [u8]) -> u32 {
+// Fills a list with numbers below a limit.
+fn fill_bytes(seed: u32, limit: usize, xs: &mut [u8]) {
     let mut s = seed;
     let mut i: usize = 0;
     while i < xs.len() {
@@ -33,11 +33,10 @@ pub fn fill_bytes(seed: u32, limit: usize, xs: &mut [u8]) -> u32 {
         xs[i] = (below(s, limit) % 256) as u8;
         i += 1;
     }
-    s
 }
 
-// Fills a list of values; returns the next seed.
-pub fn fill_values(seed: u32, limit: u16, xs: &mut [i16]) -> u32 {
+// Fills a list with values.
+fn fill_values(seed: u32, limit: u16, xs: &mut [i16]) {
     let mut s = seed;
     let mut i: usize = 0;
     while i < xs.len() {
@@ -45,7 +44,6 @@ pub fn fill_values(seed: u32, limit: u16, xs: &mut [i16]) -> u32 {
         xs[i] = value(s, limit);
         i += 1;
     }
-    s
 }
 
 // Gives every word its input bit as output 1.
@@ -58,14 +56,27 @@ fn make_systematic(words: &mut [u8]) {
     }
 }
 
-// Fills a table's words with numbers below a limit, systematic where asked; returns the next seed.
-pub fn fill_words(seed: u32, limit: usize, systematic: bool, words: &mut [u8]) -> u32 {
-    let s = fill_bytes(seed, limit, words);
-    if !systematic {
-        return s;
+// Numbers below a limit.
+pub fn bytes(seed: u32, limit: usize) -> [u8; 40] {
+    let mut xs = [0u8; 40];
+    fill_bytes(seed, limit, &mut xs);
+    xs
+}
+
+// Words below a limit, systematic where asked.
+pub fn words(seed: u32, limit: usize, systematic: bool) -> [u8; 40] {
+    let mut xs = bytes(seed, limit);
+    if systematic {
+        make_systematic(&mut xs);
     }
-    make_systematic(words);
-    s
+    xs
+}
+
+// Values in -limit..limit.
+pub fn values(seed: u32, limit: u16) -> [i16; 48] {
+    let mut xs = [0i16; 48];
+    fill_values(seed, limit, &mut xs);
+    xs
 }
 
 // The seed 101 draws on.

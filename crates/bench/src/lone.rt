@@ -9,12 +9,6 @@ use crate::tally;
 use crate::tally::Tally;
 ghost use Prim.Native.Nat.{_≤_};
 
-// A tally and the seed to go on with.
-struct Drawn {
-    tally: Tally,
-    seed: u32,
-}
-
 // The length of the channel list: outputs times sections.
 fn values(outputs: usize, sections: usize) -> usize
     requires { ⌜ outputs ≤ 4 ⌝ }
@@ -117,77 +111,40 @@ fn compared(
     outcomes::checked(t, best, a, outputs, sections, words, channel, apriori)
 }
 
-// A table and values drawn into the lists, systematic where asked, and the call on them.
-fn filled(
-    d: Drawn,
-    systematic: bool,
-    states: usize,
-    outputs: usize,
-    sections: usize,
-    next: &mut [u8],
-    words: &mut [u8],
-    channel: &mut [i16],
-    apriori: &mut [i16],
-) -> Drawn
-    requires { ⌜ states ≤ 16 ⌝ }
-    requires { ⌜ sections ≤ 12 ⌝ }
-{
-    let s1 = draw::fill_bytes(d.seed, states, next);
-    let s2 = draw::fill_words(s1, safe::power(outputs), systematic, words);
-    let s3 = draw::fill_values(s2, 1023, channel);
-    let seed = draw::fill_values(s3, 8191, apriori);
-    let tally = compared(
-        d.tally,
-        states,
-        outputs,
-        sections,
-        next,
-        words,
-        channel,
-        apriori,
-    );
-    Drawn {
-        tally: tally,
-        seed: seed,
-    }
-}
-
-// A drawn table with values, of the c-th size: states 1 to 16, outputs 1 to 4, sections 1 to 12.
-fn draw_one(c: usize, d: Drawn) -> Drawn {
+// A drawn table with values up to the largest that the decoder takes, of the c-th size: states 1 to 16, outputs 1 to 4, sections 1 to 12.
+fn draw_one(t: Tally, c: usize, seed: u32) -> Tally {
     let states = 1 + c % 16;
     let outputs = 1 + c / 16 % 4;
     let sections = 1 + c / 5 % 12;
     let branches = 2 * states;
     let heard = values(outputs, sections);
-    let mut next = [0u8; 32];
-    let mut words = [0u8; 32];
-    let mut channel = [0i16; 48];
-    let mut apriori = [0i16; 12];
-    filled(
-        d,
-        c % 3 == 0,
+    let next = draw::bytes(draw::other(seed, 1), states);
+    let words = draw::words(draw::other(seed, 2), safe::power(outputs), c % 3 == 0);
+    let channel = draw::values(draw::other(seed, 3), 1023);
+    let apriori = draw::values(draw::other(seed, 4), 8191);
+    compared(
+        t,
         states,
         outputs,
         sections,
-        &mut next[..branches],
-        &mut words[..branches],
-        &mut channel[..heard],
-        &mut apriori[..sections],
+        &next[..branches],
+        &words[..branches],
+        &channel[..heard],
+        &apriori[..sections],
     )
 }
 
 fn all_drawn(cases: usize) -> Tally {
-    let mut d = Drawn {
-        tally: tally::none(),
-        seed: 2026,
-    };
+    let mut t = tally::none();
+    let mut seed: u32 = 2026;
     let mut c: usize = 0;
     while c < cases {
-        let more = draw_one(c, d);
-        d = more;
+        let more = draw_one(t, c, seed);
+        t = more;
+        seed = draw::later(seed);
         c += 1;
     }
-    d.tally
+    t
 }
 
 pub fn run() {

@@ -15,14 +15,6 @@ pub const FORCED: usize = 3;
 
 pub const WRONG: usize = 4;
 
-// What the three lists say of a position, and what the pass was told of it.
-struct Written {
-    mark: u8,
-    margin: i32,
-    extrinsic: i32,
-    intrinsic: i32,
-}
-
 // What a call leaves: the number of its reply, whether the working list is all zeros, and the result lists.
 pub struct Answer {
     pub number: usize,
@@ -44,6 +36,7 @@ pub fn is_systematic(words: &[u8]) -> bool {
     true
 }
 
+// What a pass is told of a position.
 fn told(sys: bool, apriori: i16, channel: i16) -> i32 {
     if sys {
         return safe::sum(apriori as i32, channel as i32);
@@ -51,42 +44,32 @@ fn told(sys: bool, apriori: i16, channel: i16) -> i32 {
     apriori as i32
 }
 
-fn agrees(w: Written, mark: u8, margin: i32, extrinsic: i32) -> bool {
-    w.mark == mark && w.margin == margin && w.extrinsic == extrinsic
+// Whether the three lists say this of position k.
+fn agrees(a: Answer, k: usize, mark: u8, margin: i32, extrinsic: i32) -> bool {
+    let at = k % 12;
+    a.marks[at] == mark && a.margins[at] == margin && a.extrinsics[at] == extrinsic
 }
 
-// What a position shows. Free: the margin is half the difference of the best metrics, and the extrinsic what is left of it without what was told.
-fn verdict(best: Best, k: usize, w: Written) -> usize {
+// What a position shows. Free: the margin is exactly half the difference of the best metrics, and the extrinsic what is left of it without what was told.
+fn verdict(best: Best, a: Answer, k: usize, told: i32) -> usize {
     let at = (k % 16) * 2;
     let one = best.has[at + 1];
     if best.has[at] != one {
-        return if agrees(w, one, 0, 0) { FORCED } else { WRONG };
+        return if agrees(a, k, one, 0, 0) {
+            FORCED
+        } else {
+            WRONG
+        };
     }
-    let margin = safe::halved(safe::minus(best.metric[at + 1], best.metric[at]));
-    let extrinsic = safe::minus(margin, w.intrinsic);
-    if agrees(w, 2, margin, extrinsic) {
+    let gap = safe::minus(best.metric[at + 1], best.metric[at]);
+    let margin = safe::halved(gap);
+    if safe::sum(margin, margin) != gap {
+        return WRONG;
+    }
+    if agrees(a, k, 2, margin, safe::minus(margin, told)) {
         FREE
     } else {
         WRONG
-    }
-}
-
-// What is written of position k, and what was told of it.
-fn written_at(
-    a: Answer,
-    sys: bool,
-    outputs: usize,
-    channel: &[i16],
-    apriori: &[i16],
-    k: usize,
-) -> Written {
-    let first = safe::times(outputs, k);
-    let at = k % 12;
-    Written {
-        mark: a.marks[at],
-        margin: a.margins[at],
-        extrinsic: a.extrinsics[at],
-        intrinsic: told(sys, safe::half(apriori, k), safe::half(channel, first)),
     }
 }
 
@@ -104,8 +87,9 @@ fn positions(
     let mut out = t;
     let mut k: usize = 0;
     while k < sections {
-        let w = written_at(a, sys, outputs, channel, apriori, k);
-        let more = tally::one_more(out, verdict(best, k, w));
+        let heard = safe::half(channel, safe::times(outputs, k));
+        let known = told(sys, safe::half(apriori, k), heard);
+        let more = tally::one_more(out, verdict(best, a, k, known));
         out = more;
         k += 1;
     }

@@ -6,10 +6,10 @@ use Rattle.bench.proofs.lone.all_drawn.Statement.{statement}
 use Rattle.bench.proofs.lone.all_drawn.Tie as tie
 
 abbrev Inv-loop : tie.InvT-loop
-Inv-loop cases d₀ c₀ d c = c ≤ cases
+Inv-loop cases t₀ seed₀ c₀ t seed c = c ≤ cases
 
 abbrev μ-loop : tie.MeasureT-loop
-μ-loop cases d₀ c₀ d c = cases - c
+μ-loop cases t₀ seed₀ c₀ t seed c = cases - c
 
 none-requires : tie.Need-none-requires Inv-loop μ-loop
 none-requires c κs = search needs
@@ -19,6 +19,9 @@ loop-holds c = search needs
 
 draw-one-requires : tie.Need-draw-one-requires Inv-loop μ-loop
 draw-one-requires c κs = search needs
+
+later-requires : tie.Need-later-requires Inv-loop μ-loop
+later-requires c κs = search needs
 
 add-c : tie.Need-add-c Inv-loop μ-loop
 add-c c = search needs
@@ -35,4 +38,14 @@ returns c = search needs
 pub all-drawn-spec : {M : Type 1} → statement M
 all-drawn-spec =
     tie.close
-    (tie.spec Inv-loop μ-loop none-requires loop-holds draw-one-requires add-c loop-less loop-again returns)
+    (tie.spec
+    Inv-loop
+    μ-loop
+    none-requires
+    loop-holds
+    draw-one-requires
+    later-requires
+    add-c
+    loop-less
+    loop-again
+    returns)

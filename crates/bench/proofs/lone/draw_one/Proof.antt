@@ -21,32 +21,59 @@ mul-branches c = search needs
 values-requires : tie.Need-values-requires
 values-requires c κs = search needs
 
-array-borrow-prefix-next : tie.Need-array-borrow-prefix-next
-array-borrow-prefix-next c = search needs
+other-requires : tie.Need-other-requires
+other-requires c κs = search needs
 
-slice-aggregate-filled : tie.Need-slice-aggregate-filled
-slice-aggregate-filled c = simp length-take (omega arith)
+bytes-requires : tie.Need-bytes-requires
+bytes-requires c κs = search needs
 
-array-borrow-prefix-words : tie.Need-array-borrow-prefix-words
-array-borrow-prefix-words c = search needs
+other-requires-2 : tie.Need-other-requires-2
+other-requires-2 c κs = search needs
 
-slice-aggregate-filled-2 : tie.Need-slice-aggregate-filled-2
-slice-aggregate-filled-2 c = simp length-take (omega arith)
+power-requires : tie.Need-power-requires
+power-requires c κs = search needs
 
-array-borrow-prefix-channel : tie.Need-array-borrow-prefix-channel
-array-borrow-prefix-channel c = search needs
+words-requires : tie.Need-words-requires
+words-requires c κs = search needs
 
-slice-aggregate-filled-3 : tie.Need-slice-aggregate-filled-3
-slice-aggregate-filled-3 c = simp length-take (omega arith)
+other-requires-3 : tie.Need-other-requires-3
+other-requires-3 c κs = search needs
 
-array-borrow-prefix-apriori : tie.Need-array-borrow-prefix-apriori
-array-borrow-prefix-apriori c = search needs
+values-requires-2 : tie.Need-values-requires-2
+values-requires-2 c κs = search needs
 
-slice-aggregate-filled-4 : tie.Need-slice-aggregate-filled-4
-slice-aggregate-filled-4 c = simp length-take (omega arith)
+other-requires-4 : tie.Need-other-requires-4
+other-requires-4 c κs = search needs
 
-filled-requires : tie.Need-filled-requires
-filled-requires c κs = search needs
+values-requires-3 : tie.Need-values-requires-3
+values-requires-3 c κs = search needs
+
+array-share-prefix-next : tie.Need-array-share-prefix-next
+array-share-prefix-next c = search needs
+
+slice-aggregate-compared : tie.Need-slice-aggregate-compared
+slice-aggregate-compared c = simp length-take (omega arith)
+
+array-share-prefix-words : tie.Need-array-share-prefix-words
+array-share-prefix-words c = search needs
+
+slice-aggregate-compared-2 : tie.Need-slice-aggregate-compared-2
+slice-aggregate-compared-2 c = simp length-take (omega arith)
+
+array-share-prefix-channel : tie.Need-array-share-prefix-channel
+array-share-prefix-channel c = search needs
+
+slice-aggregate-compared-3 : tie.Need-slice-aggregate-compared-3
+slice-aggregate-compared-3 c = simp length-take (omega arith)
+
+array-share-prefix-apriori : tie.Need-array-share-prefix-apriori
+array-share-prefix-apriori c = search needs
+
+slice-aggregate-compared-4 : tie.Need-slice-aggregate-compared-4
+slice-aggregate-compared-4 c = simp length-take (omega arith)
+
+compared-requires : tie.Need-compared-requires
+compared-requires c κs = search needs
 
 returns : tie.Need-returns
 returns c = search needs
@@ -60,13 +87,22 @@ draw-one-spec =
     add-sections
     mul-branches
     values-requires
-    array-borrow-prefix-next
-    slice-aggregate-filled
-    array-borrow-prefix-words
-    slice-aggregate-filled-2
-    array-borrow-prefix-channel
-    slice-aggregate-filled-3
-    array-borrow-prefix-apriori
-    slice-aggregate-filled-4
-    filled-requires
+    other-requires
+    bytes-requires
+    other-requires-2
+    power-requires
+    words-requires
+    other-requires-3
+    values-requires-2
+    other-requires-4
+    values-requires-3
+    array-share-prefix-next
+    slice-aggregate-compared
+    array-share-prefix-words
+    slice-aggregate-compared-2
+    array-share-prefix-channel
+    slice-aggregate-compared-3
+    array-share-prefix-apriori
+    slice-aggregate-compared-4
+    compared-requires
     returns)

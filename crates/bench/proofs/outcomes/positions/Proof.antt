@@ -14,8 +14,17 @@ abbrev μ-loop : tie.MeasureT-loop
 loop-holds : tie.Need-loop-holds Inv-loop μ-loop
 loop-holds c = search needs
 
-written-at-requires : tie.Need-written-at-requires Inv-loop μ-loop
-written-at-requires c κs = search needs
+times-requires : tie.Need-times-requires Inv-loop μ-loop
+times-requires c κs = search needs
+
+half-requires : tie.Need-half-requires Inv-loop μ-loop
+half-requires c κs = search needs
+
+half-requires-2 : tie.Need-half-requires-2 Inv-loop μ-loop
+half-requires-2 c κs = search needs
+
+told-requires : tie.Need-told-requires Inv-loop μ-loop
+told-requires c κs = search needs
 
 verdict-requires : tie.Need-verdict-requires Inv-loop μ-loop
 verdict-requires c κs = search needs
@@ -42,7 +51,10 @@ positions-spec =
     Inv-loop
     μ-loop
     loop-holds
-    written-at-requires
+    times-requires
+    half-requires
+    half-requires-2
+    told-requires
     verdict-requires
     one-more-requires
     add-k
