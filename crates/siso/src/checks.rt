@@ -1,6 +1,8 @@
 // The checks of a call, in the order of their numbers.
+ghost use mathlib.Core.Bool.{_&&_};
 ghost use mathlib.Core.Path.{_≡_};
 ghost use Prim.Native.Nat.{_≤_};
+ghost use Rattle.trellis.specs.Limits.{channelFits, aprioriFits};
 ghost use Rattle.siso.specs.Decode.{listsFit, checked};
 ghost use Rattle.siso.specs.Lent.{callOf, lentOf};
 use refusal::Refusal;
@@ -43,6 +45,16 @@ fn lists_fit(
     work.len() == (sections + 1) * states
 }
 
+// Every value is within its limit.
+fn values_fit(channel: &[i16], apriori: &[i16]) -> bool
+    ensures { λ r. ⌜ r ≡ (channelFits (now (channel .entry)) && aprioriFits (now (apriori .entry))) ⌝ }
+{
+    if !trellis::all_inside(channel, 1023) {
+        return false;
+    }
+    trellis::all_inside(apriori, 8191)
+}
+
 // The reply to a call, but for 12, from what is lent alone.
 pub fn reply(
     states: usize,
@@ -69,7 +81,7 @@ pub fn reply(
     if 4096 < sections {
         return Reply::Refused(Refusal::Length);
     }
-    if !lists_fit(
+    let lists = lists_fit(
         states,
         outputs,
         next,
@@ -81,14 +93,8 @@ pub fn reply(
         margins,
         extrinsics,
         work,
-    ) {
-        return Reply::Refused(Refusal::Lists);
-    }
-    if !trellis::all_inside(channel, 1023) {
-        return Reply::Refused(Refusal::Value);
-    }
-    if !trellis::all_inside(apriori, 8191) {
-        return Reply::Refused(Refusal::Value);
-    }
-    Reply::Done
+    );
+    let lists_reply = refusal::check(lists, Refusal::Lists);
+    let values_reply = refusal::check(values_fit(channel, apriori), Refusal::Value);
+    refusal::first_of(lists_reply, values_reply)
 }

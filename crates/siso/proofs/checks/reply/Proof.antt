@@ -3,16 +3,15 @@
 use mathlib.Core.Path.{_≡_, sym, _∙_}
 use mathlib.Core.Bool.{true, _&&_, and-false}
 use borrow.Author.Needs.{needs}
-use borrow.Author.Tests.{le-leb, lt-leb, not-true, not-false}
+use borrow.Author.Tests.{le-leb, lt-leb}
 use Rattle.lists.specs.Tests.{and-true}
 use Rattle.refusal.specs.declared.Refusal.the-variants.{Shape, Branch, Length, Lists, Value}
 use Rattle.refusal.specs.declared.Reply.{Reply}
 use Rattle.refusal.specs.declared.Reply.the-variants.{Done}
 use Rattle.refusal.specs.Refusals.{check, _then_}
-use Rattle.refusal.specs.Checks.{check-is-done, first-passed, done-then, refused-then, then-assoc, fails, fails-first, passes-first}
+use Rattle.refusal.specs.Checks.{first-passed, done-then, refused-then, then-assoc, fails-first, passes-first}
 use Rattle.trellis.specs.Table.{shaped, branched}
 use Rattle.trellis.specs.Branches.{shaped-is}
-use Rattle.trellis.specs.Path.{Values}
 use Rattle.trellis.specs.Limits.{sectionsFit, channelFits, aprioriFits}
 use Rattle.siso.specs.Decode.{Call, Lent, listsFit, checked}
 use Rattle.siso.specs.Lent.{callOf, lentOf}
@@ -70,21 +69,6 @@ sections-fit : (c : tie.Else2) → sectionsFit (entry (c .before .before) .args 
 unfolding sectionsFit
 sections-fit c = and-true (le-leb 1 _ (c .before .if1 .left)) (le-leb _ _ (c .if2 .left))
 
--- only the values are left
-module _ (c : tie.Else3) where
-  abbrev at : tie.After-enum-told2
-  at = c .before .before .before .before
-
-  abbrev values : Values
-  values = call (entry at) .values
-
-  past-lists :
-      {x : Reply} → x ≡ check (channelFits (values .channel) && aprioriFits (values .apriori)) Value → x ≡ checked (call (entry at)) (lent (entry at))
-  unfolding after-table
-  past-lists e =
-      let fit = sym (c .before .lists-fit .ensures) ∙ not-false _ (c .if3 .left) in
-      past-table at (passes-first Length (sections-fit (c .before .before)) (passes-first Lists fit e))
-
 -- ---- the needs
 
 table-reply-requires : tie.Need-table-reply-requires
@@ -117,38 +101,32 @@ lists-fit-requires c κs =
     let limits = shaped-is _ (first-passed _ Shape _ (table-done (c .before .before)) .0) in
     (limits .most-states, (limits .most-outputs, c .if2 .left))
 
+check-requires : tie.Need-check-requires
+check-requires c κs = search needs
+
+values-fit-requires : tie.Need-values-fit-requires
+values-fit-requires c κs = search needs
+
+check-requires-2 : tie.Need-check-requires-2
+check-requires-2 c κs = search needs
+
+first-of-requires : tie.Need-first-of-requires
+first-of-requires c κs = search needs
+
 returns-4 : tie.Need-returns-4
 unfolding after-table
 returns-4 c =
-    let at = c .before .before in
-    let misfit = sym (c .before .lists-fit .ensures) ∙ not-true _ (c .if3 .taken) in
-    past-table (at .before .before) (passes-first Length (sections-fit at) (fails-first _ misfit))
-
-all-inside-requires : tie.Need-all-inside-requires
-all-inside-requires c κs = search needs
-
-returns-5 : tie.Need-returns-5
-unfolding channelFits
-returns-5 c =
-    let outside = sym (c .before .all-inside .ensures) ∙ not-true _ (c .if4 .taken) in
-    past-lists (c .before .before) (fails (rw outside))
-
-all-inside-requires-2 : tie.Need-all-inside-requires-2
-all-inside-requires-2 c κs = search needs
-
-returns-6 : tie.Need-returns-6
-unfolding aprioriFits
-returns-6 c =
-    let outside = sym (c .before .all-inside2 .ensures) ∙ not-true _ (c .if5 .taken) in
-    past-lists (c .before .before .before .before) (fails (rw (outside, and-false)))
-
-returns-7 : tie.Need-returns-7
-unfolding channelFits aprioriFits
-returns-7 c =
-    let at = c .before .before in
-    let channel = sym (at .before .all-inside .ensures) ∙ not-false _ (at .if4 .left) in
-    let apriori = sym (c .before .all-inside2 .ensures) ∙ not-false _ (c .if5 .left) in
-    past-lists (at .before .before) (sym (check-is-done _ Value .1 (and-true channel apriori)))
+    let measured = c .before .before .before in
+    let sized = measured .before .before in
+    past-table (sized .before .before)
+    (passes-first Length (sections-fit sized)
+    (rw (
+      c .first-of .ensures,
+      c .before .check2 .ensures,
+      c .before .before .values-fit .ensures,
+      measured .check .ensures,
+      measured .before .lists-fit .ensures,
+    )))
 
 pub reply-spec : {M : Type 1} → statement M
 reply-spec =
@@ -161,9 +139,8 @@ reply-spec =
     returns-2
     returns-3
     lists-fit-requires
-    returns-4
-    all-inside-requires
-    returns-5
-    all-inside-requires-2
-    returns-6
-    returns-7)
+    check-requires
+    values-fit-requires
+    check-requires-2
+    first-of-requires
+    returns-4)
