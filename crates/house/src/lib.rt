@@ -34,6 +34,7 @@ fn branch_of(s: u8, x: u8) -> Branch
     }
 }
 
+// The next states of the eight branches, that of state s and bit b at 2·s + b.
 pub fn house_next() -> [u8; 8]
     ensures { λ r. ⌜ r ≡ house .next ⌝ }
 {
@@ -48,6 +49,7 @@ pub fn house_next() -> [u8; 8]
     next
 }
 
+// Their words: the input, then the parity.
 pub fn house_words() -> [u8; 8]
     ensures { λ r. ⌜ r ≡ house .words ⌝ }
 {

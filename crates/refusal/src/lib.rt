@@ -1,4 +1,4 @@
-// Every refusal, and the reply of an entry. The number of each is a definition of specs/.
+// Every refusal, the reply of an entry, and checks in turn. The number of each refusal is a definition of specs/.
 ghost use mathlib.Core.Path.{_≡_};
 ghost use Rattle.refusal.specs.Refusals.{check as checkOf, _then_};
 

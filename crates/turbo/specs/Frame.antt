@@ -23,16 +23,25 @@ unfoldable pub sections : Frame → ℕ
 sections f = f .bits + f .tail
 
 -- K is at least 1, T is 0..4 and K + T at most 4,096 (not so: 4)
+abbrev pub goodSizes : ℕ → ℕ → Bool
+goodSizes k t = leb 1 k && leb t 4 && leb (k + t) sectionLimit
+
 unfoldable pub sizesFit : Frame → Bool
-sizesFit f = leb 1 (f .bits) && leb (f .tail) 4 && leb (sections f) sectionLimit
+sizesFit f = goodSizes (f .bits) (f .tail)
 
 -- the period, the length of the mask list, is 1..16, and a mask is below 8 (not so: 9)
+abbrev pub goodMasks : List ℕ → Bool
+goodMasks masks = leb 1 (length masks) && leb (length masks) 16 && every (λ m. ltb m 8) masks
+
 unfoldable pub masksFit : Frame → Bool
-masksFit f = leb 1 (length (f .masks)) && leb (length (f .masks)) 16 && every (λ m. ltb m 8) (f .masks)
+masksFit f = goodMasks (f .masks)
 
 -- the table is systematic with two outputs (not so: 11)
+abbrev pub goodCoder : Table → Bool
+goodCoder t = systematic t && eqb (t .outputs) 2
+
 unfoldable pub codes : Frame → Bool
-codes f = systematic (f .table) && eqb (f .table .outputs) 2
+codes f = goodCoder (f .table)
 
 -- ---- masks
 

@@ -1,10 +1,10 @@
 -- What the coder is lent, as the definitions' call; and what is known of it once the checks have passed.
 -- Assumes nothing.
 use mathlib.Core.Path.{_≡_}
-use mathlib.Core.Bool.{Bool, true, _&&_}
+use mathlib.Core.Bool.{true}
 use mathlib.Core.List.{List}
 use Prim.Native.Nat.{ℕ, _/_}
-use lib.Dec.{leb, ltb}
+use lib.Dec.{ltb}
 use lib.ListN.{length}
 use Rattle.lists.specs.Lists.{every}
 use Rattle.refusal.specs.declared.Reply.{Reply}
@@ -31,10 +31,6 @@ encodeOf states outputs next words bits tail message pattern masks = record {
 -- the same by the lists alone, as it is coded: a table that passed the checks has half as many states as branches, and two outputs
 abbrev pub readCall : List ℕ → List ℕ → ℕ → ℕ → List ℕ → List ℕ → List ℕ → EncodeCall
 readCall next words bits tail message pattern masks = encodeOf (length next / 2) 2 next words bits tail message pattern masks
-
--- the frame's test of its masks, over the list alone
-abbrev pub goodMasks : List ℕ → Bool
-goodMasks masks = leb 1 (length masks) && leb (length masks) 16 && every (λ m. ltb m 8) masks
 
 -- what the coder leaves, as the definitions' result
 abbrev pub encodedOf : Reply → List ℕ → EncodeResult

@@ -1,17 +1,17 @@
 // The checks of a call, in the order of their numbers.
 ghost use mathlib.Core.Bool.{not, _&&_, _||_};
 ghost use mathlib.Core.Path.{_≡_};
-ghost use Prim.Native.Nat.{_+_, _≤_};
-ghost use lib.Dec.{eqb, leb, ltb};
+ghost use Prim.Native.Nat.{_≤_};
+ghost use lib.Dec.{eqb, ltb};
 ghost use lib.ListN.{length};
 ghost use Rattle.lists.specs.Lists.{every};
 ghost use Rattle.refusal.specs.declared.Refusal.the-variants.{Bit, Pattern, Mask, Coder};
 ghost use Rattle.refusal.specs.Refusals.{check, _then_};
-ghost use Rattle.trellis.specs.Table.{tableOf, systematic};
+ghost use Rattle.trellis.specs.Table.{tableOf};
 ghost use Rattle.turbo.specs.Coder.{encodeChecked};
-ghost use Rattle.turbo.specs.Frame.{lengthUnder};
+ghost use Rattle.turbo.specs.Frame.{goodSizes, goodMasks, goodCoder, lengthUnder};
 ghost use Rattle.turbo.specs.Interleaver.{permutes as permutesTo};
-ghost use Rattle.turbo.specs.Lent.{encodeOf, goodMasks};
+ghost use Rattle.turbo.specs.Lent.{encodeOf};
 use crate::frame::frame_length;
 use crate::interleaver::permutes;
 use refusal::Refusal;
@@ -19,7 +19,7 @@ use refusal::Reply;
 
 // K is at least 1, T is 0 to 4 and K + T at most 4,096. No sum is made before its parts are tested.
 fn sizes_fit(bits: usize, tail: usize) -> bool
-    ensures { λ r. ⌜ r ≡ (leb 1 bits && leb tail 4 && leb (bits + tail) 4096) ⌝ }
+    ensures { λ r. ⌜ r ≡ goodSizes bits tail ⌝ }
 {
     if bits < 1 {
         return false;
@@ -60,7 +60,7 @@ fn frame_fits(masks: &[u8], bits: usize, tail: usize, len: usize) -> bool
 
 // The table can code: two outputs, of which the first is the input.
 fn codes(states: usize, outputs: usize, next: &[u8], words: &[u8]) -> bool
-    ensures { λ r. ⌜ r ≡ (systematic (tableOf states outputs (now (next .entry)) (now (words .entry))) && eqb outputs 2) ⌝ }
+    ensures { λ r. ⌜ r ≡ goodCoder (tableOf states outputs (now (next .entry)) (now (words .entry))) ⌝ }
 {
     if outputs != 2 {
         return false;
@@ -101,7 +101,7 @@ fn entries_reply(
     masks: &[u8],
 ) -> Reply
     requires { ⌜ length (now pattern) ≤ 4096 ⌝ }
-    ensures { λ r. ⌜ r ≡ (check (every (λ b. ltb b 2) (now (message .entry))) Bit then check (permutesTo (length (now (pattern .entry))) (now (pattern .entry))) Pattern then check (goodMasks (now (masks .entry))) Mask then check (systematic (tableOf states outputs (now (next .entry)) (now (words .entry))) && eqb outputs 2) Coder) ⌝ }
+    ensures { λ r. ⌜ r ≡ (check (every (λ b. ltb b 2) (now (message .entry))) Bit then check (permutesTo (length (now (pattern .entry))) (now (pattern .entry))) Pattern then check (goodMasks (now (masks .entry))) Mask then check (goodCoder (tableOf states outputs (now (next .entry)) (now (words .entry)))) Coder) ⌝ }
 {
     let message_reply = refusal::check(trellis::all_below(message, 2), Refusal::Bit);
     let pattern_reply = refusal::check(permutes(pattern), Refusal::Pattern);

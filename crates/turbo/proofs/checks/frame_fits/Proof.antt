@@ -5,7 +5,7 @@ use mathlib.Core.Bool.{true}
 use borrow.Author.Needs.{needs}
 use borrow.Author.Tests.{leb-true, not-true, not-false}
 use Rattle.lists.specs.Tests.{and-left}
-use Rattle.turbo.specs.Lent.{goodMasks}
+use Rattle.turbo.specs.Frame.{goodMasks}
 use Rattle.turbo.proofs.checks.frame_fits.Statement.{statement}
 use Rattle.turbo.proofs.checks.frame_fits.Tie as tie
 
