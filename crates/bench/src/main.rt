@@ -1,9 +1,9 @@
 // The bench program: the cases of document 01 about the lone decoder and the coder that are not marked P, document 001's Table 2, margins, marks and
 // extrinsics against a plain listing of paths, and frames and refusals against a plain coder. It prints how many cases of each kind agreed.
-mod coder;
 mod coder_calls;
 mod coder_limits;
 mod draw;
+mod encoder;
 mod limits;
 mod listing;
 mod lone;
@@ -18,5 +18,5 @@ fn main() {
     limits::run();
     lone::run();
     coder_limits::run();
-    coder::run();
+    encoder::run();
 }

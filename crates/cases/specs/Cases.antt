@@ -20,11 +20,11 @@ use Rattle.trellis.specs.Outcome
 use Rattle.siso.specs.Decode as Lone
 use Rattle.house.specs.House
 use Rattle.house.specs.House.{house}
-use Rattle.turbo.specs.Interleaver
-use Rattle.turbo.specs.Frame
-use Rattle.turbo.specs.Frame.{Frame}
-use Rattle.turbo.specs.Coder
-use Rattle.turbo.specs.Decoder
+use Rattle.frame.specs.Interleaver
+use Rattle.frame.specs.Frame
+use Rattle.frame.specs.Frame.{Frame}
+use Rattle.coder.specs.Coder
+use Rattle.decoder.specs.Decoder
 use Rattle.sheet.specs.Text
 use Rattle.sheet.specs.Text.{bytes}
 use Rattle.sheet.specs.Decimal
@@ -46,15 +46,15 @@ unfoldable pub computed : Case → Case
 unfolding
     bind Option·elim orElse getLastD ones
     ByIndex.listed ByIndex.joined ByIndex.keep ByIndex.every ByIndex.any ByIndex.count ByIndex.isEmpty ByIndex.found ByIndex.upto
-    Integers.maxℤ Integers.minℤ Integers.inside Integers.limited Integers.half Integers.parity
+    Integers.maxℤ Integers.minℤ Integers.inside Integers.limited Integers.half
     Refusals.told Refusals.numberOf Refusals.check Refusals._then_ Refusals.after Refusals.cleared
     Limits.sectionsFit Limits.channelFits Limits.aprioriFits
     Outcome.larger Outcome.greatest Outcome.best Outcome.outcomeOf Outcome.outcome Outcome.pathless Outcome.forced Outcome.mark Outcome.margin Outcome.systematicAt Outcome.intrinsic Outcome.extrinsic Outcome.positionOf Outcome.position Outcome.marks Outcome.margins Outcome.extrinsics
-    Path.aprioriAt Path.channelAt Path.signed Path.wordMetric Path.branchMetric Path.metricFrom Path.finish Path.metric Path.allBits Path.homeward Path.paths Path.class
+    Path.aprioriAt Path.channelAt Path.signed Path.wordMetric Path.branchMetric Path.metricFrom Path.finish Path.metric Path.allBits Path.terminating Path.paths Path.class
     Table.nextState Table.word Table.output Table.systematic Table.shaped Table.branched
     Lone.listsFit Lone.checked Lone.walked Lone.reply Lone.settled Lone.decode
     Coder.tailFrom Coder.withTail Coder.parityAt Coder.sectionAt Coder.places Coder.sentFor Coder.encodeListsFit Coder.encodeChecked Coder.tailed Coder.encodeReply Coder.encodeSettled Coder.encode
-    Decoder.handOver Decoder.decided Decoder.channel1 Decoder.channel2 Decoder.pass Decoder.pass1 Decoder.pass2 Decoder.handOn Decoder.handBack Decoder.iteration Decoder.prior Decoder.lastPass Decoder.decodeListsFit Decoder.decodeReply Decoder.decode
+    Decoder.handOver Decoder.decided Decoder.channel1 Decoder.channel2 Decoder.pass Decoder.pass1 Decoder.pass2 Decoder.handOn Decoder.handBack Decoder.iteration Decoder.prior Decoder.lastPass Decoder.decodeListsFit Decoder.decodeChecked Decoder.decodeWalked Decoder.decodeReply Decoder.decodeSettled Decoder.decode
     Frame.sections Frame.sizesFit Frame.masksFit Frame.codes Frame.maskAt Frame.maskFlags Frame.onesTo Frame.lengthUnder Frame.frameLength Frame.flagsUnder Frame.flags Frame.puncture Frame.spread
     House.houseParity House.houseNext House.house
     Interleaver.permutes Interleaver.place Interleaver.interleave Interleaver.deinterleave

@@ -9,22 +9,22 @@ use Prim.Native.Nat.{ℕ, _+_}
 use native.Mathlib.Omega.{arith}
 use lib.ListN.{length, getD, length-append}
 use Rattle.lists.specs.Lists.{joined, found}
-use Rattle.lists.specs.Listed.{joined-length}
+use Rattle.lists.specs.laws.Listed.{joined-length}
 use Rattle.refusal.specs.declared.Refusal.the-variants.{NoTail}
 use Rattle.refusal.specs.declared.Reply.the-variants.{Done}
 use Rattle.refusal.specs.Refusals.{after}
-use Rattle.refusal.specs.Checks.{check-is-done, then-is-done}
+use Rattle.refusal.specs.laws.Checks.{check-is-done, then-is-done}
 use Rattle.trellis.specs.Path.{finish}
-use Rattle.trellis.specs.Listing.{IsBits, IsPath}
-use Rattle.turbo.specs.Interleaver.{interleave}
-use Rattle.turbo.specs.Frame.{Frame, sections, frameLength, flags, puncture, spread}
-use Rattle.turbo.specs.Flags.{flags-length, flags-set}
-use Rattle.turbo.specs.Puncturing.{puncture-length, spread-punctured}
-use Rattle.turbo.specs.Coder.{parityAt, sectionAt, places, tailFrom, withTail, sentFor, EncodeCall, encodeChecked, tailed, encodeReply, encodeSettled, encode}
-use Rattle.turbo.specs.Bits.{bits-tested, bits-interleaved}
-use Rattle.turbo.specs.Checked.{checked}
-use Rattle.turbo.specs.Encoded.{codable}
-use Rattle.turbo.specs.TailPaths.{IsFirst, tail-exactly, tailed-path}
+use Rattle.trellis.specs.Best.{IsBits, IsPath}
+use Rattle.frame.specs.Interleaver.{interleave}
+use Rattle.frame.specs.Frame.{Frame, sections, frameLength, flags, puncture, spread}
+use Rattle.frame.specs.laws.Flags.{flags-length, flags-set}
+use Rattle.frame.specs.laws.Puncturing.{puncture-length, spread-punctured}
+use Rattle.coder.specs.Coder.{parityAt, sectionAt, places, tailFrom, withTail, sentFor, EncodeCall, encodeChecked, tailed, encodeReply, encodeSettled, encode}
+use Rattle.coder.specs.laws.Bits.{bits-tested, bits-interleaved}
+use Rattle.frame.specs.laws.Checked.{checked}
+use Rattle.coder.specs.laws.Encoded.{codable}
+use Rattle.coder.specs.laws.TailPaths.{IsFirst, tail-exactly, tailed-path}
 
 -- all inputs of a coder: its own and the first tail in dictionary order, which are a path of K + T sections
 pub record IsCoderPath (f : Frame) (inputs path : List ℕ) : Type 0 where

@@ -9,20 +9,21 @@ use Prim.Native.Nat.{ℕ, _-_, _<_}
 use lib.IntN.{ℤ, pos, _-ℤ_, _*ℤ_}
 use lib.ListN.{getD}
 use borrow.Author.Tests.{not-true}
-use Rattle.lists.specs.Listed.{listed-at}
+use Rattle.lists.specs.laws.Listed.{listed-at}
 use Rattle.refusal.specs.declared.Refusal.the-variants.{NoPath}
 use Rattle.refusal.specs.declared.Reply.the-variants.{Done, Refused}
 use Rattle.refusal.specs.Refusals.{check, _then_, after}
-use Rattle.refusal.specs.Checks.{refused-is-not-done, check-is-done, then-is-done}
+use Rattle.refusal.specs.laws.Checks.{refused-is-not-done, check-is-done, then-is-done}
 use Rattle.trellis.specs.declared.Outcome.{Outcome}
 use Rattle.trellis.specs.Table.{Table}
 use Rattle.trellis.specs.Path.{Values, TrellisPath}
 use Rattle.trellis.specs.Outcome.{best, outcomeOf, outcome, pathless, mark, margin, intrinsic, extrinsic, positionOf, position, marks, margins, extrinsics}
-use Rattle.trellis.specs.Listing.{InClass}
-use Rattle.trellis.specs.Greatest.{IsBest, best-is-some, best-is-none-without-paths}
-use Rattle.integers.specs.Laws.{half-exact}
-use Rattle.trellis.specs.Parity.{best-parity}
-use Rattle.trellis.specs.Emptiness.{outcome-is-none}
+use Rattle.trellis.specs.Best.{InClass}
+use Rattle.trellis.specs.Best.{IsBest}
+use Rattle.trellis.specs.laws.Greatest.{best-is-some, best-is-none-without-paths}
+use Rattle.integers.specs.laws.Laws.{half-exact}
+use Rattle.trellis.specs.laws.Parity.{best-parity}
+use Rattle.trellis.specs.laws.Emptiness.{outcome-is-none}
 use Rattle.siso.specs.Decode.{Call, Lent, checked, walked, reply, settled, decode}
 
 -- what is written at a position

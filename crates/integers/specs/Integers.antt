@@ -1,7 +1,7 @@
--- What the definitions say of integers beyond the library's: the larger and the smaller of two, limits, halves and parity.
+-- What the definitions say of integers beyond the library's: the larger and the smaller of two, limits and halves.
 -- Assumes nothing.
 use mathlib.Core.Bool.{Bool, cond}
-use Prim.Native.Nat.{ℕ, _≤_, _%_}
+use Prim.Native.Nat.{ℕ}
 use lib.Dec.{leb}
 use lib.IntN.{ℤ, pos, negℤ, natAbs}
 use lib.Signed.{ltZ, quotZ}
@@ -14,10 +14,6 @@ unfoldable pub minℤ : ℤ → ℤ → ℤ
 minℤ a b = cond (ltZ a b) a b
 
 -- z is in -b..b
-pub record Within (b : ℕ) (z : ℤ) : Type 0 where
-  pub within : natAbs z ≤ b
-
--- the same as a test
 unfoldable pub inside : ℕ → ℤ → Bool
 inside b z = leb (natAbs z) b
 
@@ -28,7 +24,3 @@ limited b z = maxℤ (negℤ (pos b)) (minℤ z (pos b))
 -- half, rounded towards zero
 unfoldable pub half : ℤ → ℤ
 half z = quotZ z (pos 2)
-
--- 0 of an even integer, 1 of an odd one
-unfoldable pub parity : ℤ → ℕ
-parity z = natAbs z % 2

@@ -1,5 +1,2 @@
 pub mod Integers
-pub mod Parts
-pub mod Difference
-pub mod Linear
-pub mod Laws
+pub mod laws

@@ -1,7 +1,2 @@
 pub mod Lists
-pub mod Keep
-pub mod Tests
-pub mod Listed
-pub mod Every
-pub mod Stores
-pub mod Counts
+pub mod laws

@@ -14,7 +14,7 @@ use Rattle.refusal.specs.declared.Reply.{Reply}
 use Rattle.refusal.specs.declared.Reply.the-variants.{Done, Refused}
 use Rattle.refusal.specs.Refusals.{told, check, _then_}
 use Rattle.house.specs.House.{house}
-use Rattle.turbo.specs.Decoder.{DecodeCall, DecodeLent, decode}
+use Rattle.decoder.specs.Decoder.{DecodeCall, DecodeLent, decode}
 use Rattle.sheet.specs.Text.{bytes, lineFeed, cut, same}
 use Rattle.sheet.specs.Decimal.{digits, decimal}
 use Rattle.sheet.specs.Rows.{MessageRow, TailRow, messageRow, tailRow}

@@ -8,17 +8,17 @@ use lib.IntN.{ℤ}
 use lib.ListN.{length, getD}
 use mir.Syntax.{w32}
 use mir.Val.{SFits, toZ, ofZ}
-use Rattle.integers.specs.Integers.{Within}
-use Rattle.integers.specs.Laws.{within-sum}
-use Rattle.integers.specs.Linear.{plain}
-use Rattle.trellis.specs.Signs.{signed-within}
-use Rattle.trellis.specs.Sizes.{Small, present, small-more, small-plus}
-use Rattle.trellis.specs.Sweeps.{departing}
+use Rattle.integers.specs.laws.Bounds.{Within}
+use Rattle.integers.specs.laws.Laws.{within-sum}
+use Rattle.integers.specs.laws.Linear.{plain}
+use Rattle.trellis.specs.laws.Signs.{signed-within}
+use Rattle.trellis.specs.laws.Sizes.{Small, present, small-more, small-plus}
+use Rattle.trellis.specs.laws.Sweeps.{departing}
 use Rattle.siso.specs.declared.metric.Metric.{Metric}
-use Rattle.siso.specs.Held.{row, targetOf, gainOf, Branches, Gains, Held}
+use Rattle.siso.specs.laws.Held.{row, targetOf, branchMetricOf, Branches, BranchMetrics, Held}
 
-pub gain-within : (words : List ℕ) (g : List ℤ) (a : ℤ) (s b : ℕ) → getD words (2 * s + b) 0 < 16 → Gains g a → Within 12283 (gainOf words g a s b)
-gain-within words g a s b short h = within-sum (signed-within b (h .apriori)) (h .word _ short)
+pub branch-metric-within : (words : List ℕ) (g : List ℤ) (a : ℤ) (s b : ℕ) → getD words (2 * s + b) 0 < 16 → BranchMetrics g a → Within 12283 (branchMetricOf words g a s b)
+branch-metric-within words g a s b short h = within-sum (signed-within b (h .apriori)) (h .word _ short)
 
 pub held-small : {states : ℕ} {m : List Metric} → Held states m → (s : ℕ) → s < states → Small 100000000 (row m s)
 held-small h s state = small-more (omega arith) (h .small s state)
@@ -26,9 +26,9 @@ held-small h s state = small-more (omega arith) (h .small s state)
 -- what is asked of a branch, where the a-priori value is read back from a local
 pub branch-asked :
     {states s b : ℕ} {next words : List ℕ} {g : List ℤ} {a : ℤ} {m : List Metric}
-    → SFits w32 a → Branches states next words → Gains g a → Held states m → s < states → b < 2
-    → Branches states next words × (Gains g (toZ w32 (ofZ w32 a)) × (Held states m × ((s < states) × (b < 2))))
-branch-asked a-fits branches gains held state bit = (branches, (simp plain gains, (held, (state, bit))))
+    → SFits w32 a → Branches states next words → BranchMetrics g a → Held states m → s < states → b < 2
+    → Branches states next words × (BranchMetrics g (toZ w32 (ofZ w32 a)) × (Held states m × ((s < states) × (b < 2))))
+branch-asked a-fits branches branch-metrics held state bit = (branches, (simp plain branch-metrics, (held, (state, bit))))
 
 module _ {states : ℕ} {next words : List ℕ} (t : Branches states next words) {s b : ℕ} (state : s < states) (bit : b < 2) where
   branch : 2 * s + b < 2 * states
@@ -40,11 +40,11 @@ module _ {states : ℕ} {next words : List ℕ} (t : Branches states next words)
   pub leads-to-state : targetOf next s b < states
   leads-to-state = t .stays _ branch
 
-  module _ {g : List ℤ} {a : ℤ} (h : Gains g a) where
-    pub word-inside : (2 * s + b < length words) × ((getD words (2 * s + b) 0 < 16) × Gains g a)
+  module _ {g : List ℤ} {a : ℤ} (h : BranchMetrics g a) where
+    pub word-inside : (2 * s + b < length words) × ((getD words (2 * s + b) 0 < 16) × BranchMetrics g a)
     word-inside = (omega arith, (t .short _ branch, h))
 
-    pub departing-small : {m : List Metric} → Held states m → Small 100000000 (departing (targetOf next) (gainOf words g a) (row m) s b)
+    pub departing-small : {m : List Metric} → Held states m → Small 100000000 (departing (targetOf next) (branchMetricOf words g a) (row m) s b)
     unfolding departing
     departing-small {m} held =
-        small-more (omega arith) (small-plus (present (gain-within words g a s b (t .short _ branch) h)) (held .small _ leads-to-state))
+        small-more (omega arith) (small-plus (present (branch-metric-within words g a s b (t .short _ branch) h)) (held .small _ leads-to-state))

@@ -6,8 +6,8 @@ use native.Mathlib.Omega.{arith}
 use lib.ListN.{length}
 use Rattle.trellis.specs.Table.{Table}
 use Rattle.trellis.specs.Path.{Values}
-use Rattle.siso.specs.Lent.{Pass}
-use Rattle.siso.specs.Passed.{table-limits, few-sections}
+use Rattle.siso.specs.laws.Pass.{Pass}
+use Rattle.siso.specs.laws.Passed.{table-limits, few-sections}
 
 part-ends : (c : ℕ) {k n : ℕ} → k < n → c * k + c ≤ c * n
 part-ends c {k} h = rw (← mul-suc c k) (mul-le-mul-left c h)

@@ -11,11 +11,11 @@ use lib.ListN.{length, getD, set, replicate}
 use lib.Seq.{getD-set-same, getD-set-other}
 use borrow.Author.Count.{below-more}
 use borrow.Author.Tests.{eqb-true, eqb-false}
-use Rattle.trellis.specs.MaxPlus.{larger-none}
+use Rattle.trellis.specs.laws.MaxPlus.{larger-none}
 use Rattle.trellis.specs.Outcome.{larger}
 use Rattle.siso.specs.declared.metric.Metric.{Metric}
 use Rattle.siso.specs.declared.metric.Metric.the-variants.{Unreached}
-use Rattle.siso.specs.Held.{there, row}
+use Rattle.siso.specs.laws.Held.{there, row}
 
 -- a row that nothing has reached
 pub unreached : (n s : ℕ) → row (replicate n Unreached) s ≡ none

@@ -8,16 +8,16 @@ use native.Mathlib.Nat.{add-zero}
 use native.Mathlib.Omega.{arith}
 use lib.IntN.{ℤ, pos, _+ℤ_}
 use lib.ListN.{getD}
-use Rattle.integers.specs.Integers.{Within}
+use Rattle.integers.specs.laws.Bounds.{Within}
 use Rattle.trellis.specs.Table.{Table, systematic}
 use Rattle.trellis.specs.Path.{Values, aprioriAt, channelAt}
 use Rattle.trellis.specs.Outcome.{outcomeOf, positionOf, outcome, position, pathless, intrinsic, systematicAt}
-use Rattle.trellis.specs.Emptiness.{outcome-is-none}
-use Rattle.trellis.specs.Recursion.{outcome-by-recursion}
-use Rattle.trellis.specs.Sizes.{Small, small-more}
-use Rattle.trellis.specs.Sweeps.{home, meet}
-use Rattle.siso.specs.Lent.{Pass}
-use Rattle.siso.specs.Passed.{table-limits, table-closed, values-bounded, intrinsic-within, meet-is-small}
+use Rattle.trellis.specs.laws.Emptiness.{outcome-is-none}
+use Rattle.trellis.specs.laws.Recursion.{outcome-by-recursion}
+use Rattle.trellis.specs.laws.Sizes.{Small, small-more}
+use Rattle.trellis.specs.laws.Sweeps.{boundary, meet}
+use Rattle.siso.specs.laws.Pass.{Pass}
+use Rattle.siso.specs.laws.Passed.{table-limits, table-closed, values-bounded, intrinsic-within, meet-is-small}
 
 -- ---- the intrinsic part, from the values as they stand in their lists
 
@@ -37,8 +37,8 @@ told-is t v k e = rw (e, add-zero)
 
 -- the best metrics at section k of n with bit 0 and with bit 1, and the intrinsic part there
 pub record Met (t : Table) (v : Values) (n k : ℕ) (zero one : Option ℤ) (told : ℤ) : Type 0 where
-  pub best-zero : zero ≡ meet t v home home n k 0
-  pub best-one : one ≡ meet t v home home n k 1
+  pub best-zero : zero ≡ meet t v boundary boundary n k 0
+  pub best-one : one ≡ meet t v boundary boundary n k 1
   pub intrinsic-part : told ≡ intrinsic t v k
 
 module _
@@ -59,5 +59,5 @@ module _
     ),
   )
     where
-      small : (b : ℕ) → Small 100000000 (meet t v home home n k b)
+      small : (b : ℕ) → Small 100000000 (meet t v boundary boundary n k b)
       small b = small-more (omega arith) (meet-is-small p k b here)

@@ -10,11 +10,11 @@ use lib.ListN.{length, getD, set}
 use lib.Seq.{getD-set-same, getD-set-other}
 use borrow.Author.Count.{below-more}
 use borrow.Author.Tests.{ne-eqb}
-use Rattle.integers.specs.Integers.{Within}
-use Rattle.trellis.specs.Sizes.{Small, small-known}
+use Rattle.integers.specs.laws.Bounds.{Within}
+use Rattle.trellis.specs.laws.Sizes.{Small, small-known}
 use Rattle.siso.specs.declared.metric.Metric.{Metric}
 use Rattle.siso.specs.declared.metric.Metric.the-variants.{Unreached, At}
-use Rattle.siso.specs.Held.{there, row, wordOf, metricOf, isNothing, Saved}
+use Rattle.siso.specs.laws.Held.{there, row, wordOf, metricOf, isNothing, Saved}
 
 -- the reserved word is no small number's
 not-nothing : (z : ℤ) → Within 100000000 z → isNothing z ≡ false

@@ -11,7 +11,7 @@ use lib.IntN.{ℤ, pos}
 use lib.ListN.{length, getD, set, length-set}
 use lib.Seq.{ext-getD, getD-set-same, getD-set-other}
 use Rattle.lists.specs.Lists.{listed}
-use Rattle.lists.specs.Listed.{listed-length, listed-at}
+use Rattle.lists.specs.laws.Listed.{listed-length, listed-at}
 use Rattle.trellis.specs.declared.Position.{Position}
 use Rattle.trellis.specs.Table.{Table}
 use Rattle.trellis.specs.Path.{Values}

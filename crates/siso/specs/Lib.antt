@@ -1,9 +1,3 @@
 pub mod Decode
-pub mod Held
 pub mod Lent
-pub mod Accepted
-pub mod Passed
-pub mod Gathered
-pub mod Steps
-pub mod Between
-pub mod Settled
+pub mod laws

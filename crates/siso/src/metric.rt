@@ -4,12 +4,13 @@ ghost use mathlib.Core.Path.{_≡_};
 ghost use Prim.Native.Nat.{ℕ, _+_, _≤_, _<_};
 ghost use lib.IntN.{pos};
 ghost use lib.ListN.{length, getD};
-ghost use Rattle.integers.specs.Integers.{maxℤ, Within};
-ghost use Rattle.trellis.specs.MaxPlus.{plus as sum};
+ghost use Rattle.integers.specs.Integers.{maxℤ};
+ghost use Rattle.integers.specs.laws.Bounds.{Within};
+ghost use Rattle.trellis.specs.laws.MaxPlus.{plus as sum};
 ghost use Rattle.trellis.specs.Outcome.{larger as greater};
-ghost use Rattle.trellis.specs.Sizes.{Small};
-ghost use Rattle.trellis.specs.Sweeps.{home as homeRow};
-ghost use Rattle.siso.specs.Held.{there, row, wordOf, metricOf, Saved};
+ghost use Rattle.trellis.specs.laws.Sizes.{Small};
+ghost use Rattle.trellis.specs.laws.Sweeps.{boundary as boundaryRow};
+ghost use Rattle.siso.specs.laws.Held.{there, row, wordOf, metricOf, Saved};
 
 // An unreached state has no metric.
 pub enum Metric {
@@ -84,8 +85,8 @@ pub fn uncoded(x: i32) -> Metric
 }
 
 // The metrics before the first section and after the last: state 0 has 0.
-pub fn home() -> [Metric; 16]
-    ensures { λ r. ⌜ ((s : ℕ) → row r s ≡ homeRow s) ⌝ }
+pub fn boundary() -> [Metric; 16]
+    ensures { λ r. ⌜ ((s : ℕ) → row r s ≡ boundaryRow s) ⌝ }
 {
     let mut m = [Metric::Unreached; 16];
     m[0] = Metric::At(0);

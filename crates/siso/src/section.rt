@@ -6,15 +6,15 @@ ghost use Prim.Native.Nat.{ℕ, _+_, _*_, _≤_, _<_};
 ghost use lib.Dec.{eqb};
 ghost use lib.IntN.{pos, _+ℤ_};
 ghost use lib.ListN.{length, getD};
-ghost use Rattle.integers.specs.Integers.{Within};
+ghost use Rattle.integers.specs.laws.Bounds.{Within};
 ghost use Rattle.trellis.specs.Table.{output as outputOf};
 ghost use Rattle.trellis.specs.Path.{signed as signedBy, wordMetric};
 ghost use Rattle.trellis.specs.Outcome.{larger as greater};
-ghost use Rattle.trellis.specs.MaxPlus.{plus as sum};
-ghost use Rattle.trellis.specs.Over.{over};
-ghost use Rattle.trellis.specs.Sizes.{Small};
-ghost use Rattle.trellis.specs.Sweeps.{arriving, advance, departing, retreat, passing};
-ghost use Rattle.siso.specs.Held.{there, row, targetOf, gainOf, Branches, Gains, Held};
+ghost use Rattle.trellis.specs.laws.MaxPlus.{plus as sum};
+ghost use Rattle.trellis.specs.laws.Over.{over};
+ghost use Rattle.trellis.specs.laws.Sizes.{Small};
+ghost use Rattle.trellis.specs.laws.Sweeps.{arriving, advance, departing, retreat, passing};
+ghost use Rattle.siso.specs.laws.Held.{there, row, targetOf, branchMetricOf, Branches, BranchMetrics, Held};
 use crate::metric::Metric;
 use crate::metric::join;
 use crate::metric::larger;
@@ -82,11 +82,11 @@ fn target(next: &[u8], s: usize, b: usize) -> usize
 }
 
 // The metric of the branch of state s and bit b: the word's part, and sign × a-priori value.
-fn gain(words: &[u8], g: [i32; 16], a: i32, s: usize, b: usize) -> i32
+fn branch_metric(words: &[u8], g: [i32; 16], a: i32, s: usize, b: usize) -> i32
     requires { ⌜ 2 * s + b < length (now words) ⌝ }
     requires { ⌜ getD (now words) (2 * s + b) 0 < 16 ⌝ }
-    requires { ⌜ Gains g a ⌝ }
-    ensures { λ r. ⌜ r ≡ gainOf (now (words .entry)) g a s b ⌝ }
+    requires { ⌜ BranchMetrics g a ⌝ }
+    ensures { λ r. ⌜ r ≡ branchMetricOf (now (words .entry)) g a s b ⌝ }
 {
     let w = words[2 * s + b] as usize;
     signed(b, a) + g[w]
@@ -97,10 +97,10 @@ fn along(words: &[u8], g: [i32; 16], a: i32, s: usize, b: usize, x: Metric) -> M
     requires { ⌜ Small 100000000 (there x) ⌝ }
     requires { ⌜ 2 * s + b < length (now words) ⌝ }
     requires { ⌜ getD (now words) (2 * s + b) 0 < 16 ⌝ }
-    requires { ⌜ Gains g a ⌝ }
-    ensures { λ r. ⌜ there r ≡ sum (there x) (some (gainOf (now (words .entry)) g a s b)) ⌝ }
+    requires { ⌜ BranchMetrics g a ⌝ }
+    ensures { λ r. ⌜ there r ≡ sum (there x) (some (branchMetricOf (now (words .entry)) g a s b)) ⌝ }
 {
-    plus(x, gain(words, g, a, s, b))
+    plus(x, branch_metric(words, g, a, s, b))
 }
 
 // The metrics with one more offered to a state.
@@ -127,11 +127,11 @@ fn arrive(
     out: [Metric; 16],
 ) -> [Metric; 16]
     requires { ⌜ Branches states (now next) (now words) ⌝ }
-    requires { ⌜ Gains g a ⌝ }
+    requires { ⌜ BranchMetrics g a ⌝ }
     requires { ⌜ Held states m ⌝ }
     requires { ⌜ s < states ⌝ }
     requires { ⌜ b < 2 ⌝ }
-    ensures { λ r. ⌜ ((t : ℕ) → row r t ≡ greater (row out t) (arriving (targetOf (now (next .entry))) (gainOf (now (words .entry)) g a) (row m) t s b)) ⌝ }
+    ensures { λ r. ⌜ ((t : ℕ) → row r t ≡ greater (row out t) (arriving (targetOf (now (next .entry))) (branchMetricOf (now (words .entry)) g a) (row m) t s b)) ⌝ }
 {
     let x = m[s];
     let to = target(next, s, b);
@@ -148,9 +148,9 @@ pub fn forwards(
     m: [Metric; 16],
 ) -> [Metric; 16]
     requires { ⌜ Branches states (now next) (now words) ⌝ }
-    requires { ⌜ Gains g a ⌝ }
+    requires { ⌜ BranchMetrics g a ⌝ }
     requires { ⌜ Held states m ⌝ }
-    ensures { λ r. ⌜ ((s : ℕ) → row r s ≡ advance (targetOf (now (next .entry))) (gainOf (now (words .entry)) g a) states (row m) s) ⌝ }
+    ensures { λ r. ⌜ ((s : ℕ) → row r s ≡ advance (targetOf (now (next .entry))) (branchMetricOf (now (words .entry)) g a) states (row m) s) ⌝ }
 {
     let mut out = [Metric::Unreached; 16];
     let mut s: usize = 0;
@@ -175,11 +175,11 @@ fn onward(
     b: usize,
 ) -> Metric
     requires { ⌜ Branches states (now next) (now words) ⌝ }
-    requires { ⌜ Gains g a ⌝ }
+    requires { ⌜ BranchMetrics g a ⌝ }
     requires { ⌜ Held states m ⌝ }
     requires { ⌜ s < states ⌝ }
     requires { ⌜ b < 2 ⌝ }
-    ensures { λ r. ⌜ there r ≡ departing (targetOf (now (next .entry))) (gainOf (now (words .entry)) g a) (row m) s b ⌝ }
+    ensures { λ r. ⌜ there r ≡ departing (targetOf (now (next .entry))) (branchMetricOf (now (words .entry)) g a) (row m) s b ⌝ }
 {
     let to = target(next, s, b);
     let x = m[to];
@@ -196,9 +196,9 @@ pub fn backwards(
     m: [Metric; 16],
 ) -> [Metric; 16]
     requires { ⌜ Branches states (now next) (now words) ⌝ }
-    requires { ⌜ Gains g a ⌝ }
+    requires { ⌜ BranchMetrics g a ⌝ }
     requires { ⌜ Held states m ⌝ }
-    ensures { λ r. ⌜ ((s : ℕ) → s < states → row r s ≡ retreat (targetOf (now (next .entry))) (gainOf (now (words .entry)) g a) (row m) s) ⌝ }
+    ensures { λ r. ⌜ ((s : ℕ) → s < states → row r s ≡ retreat (targetOf (now (next .entry))) (branchMetricOf (now (words .entry)) g a) (row m) s) ⌝ }
 {
     let mut out = [Metric::Unreached; 16];
     let mut s: usize = 0;
@@ -224,11 +224,11 @@ pub fn best(
     b: usize,
 ) -> Metric
     requires { ⌜ Branches states (now next) (now words) ⌝ }
-    requires { ⌜ Gains g a ⌝ }
+    requires { ⌜ BranchMetrics g a ⌝ }
     requires { ⌜ Held states f ⌝ }
     requires { ⌜ Held states m ⌝ }
     requires { ⌜ b < 2 ⌝ }
-    ensures { λ r. ⌜ there r ≡ over states (passing (targetOf (now (next .entry))) (gainOf (now (words .entry)) g a) (row f) (row m) b) ⌝ }
+    ensures { λ r. ⌜ there r ≡ over states (passing (targetOf (now (next .entry))) (branchMetricOf (now (words .entry)) g a) (row f) (row m) b) ⌝ }
 {
     let mut top = Metric::Unreached;
     let mut s: usize = 0;

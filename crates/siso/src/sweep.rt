@@ -5,15 +5,16 @@ ghost use mathlib.Core.Path.{_≡_};
 ghost use Prim.Native.Nat.{ℕ, _+_, _*_, _<_};
 ghost use lib.IntN.{pos, _+ℤ_};
 ghost use lib.ListN.{length, replicate};
-ghost use Rattle.integers.specs.Integers.{Within};
+ghost use Rattle.integers.specs.laws.Bounds.{Within};
 ghost use Rattle.lists.specs.Lists.{found};
 ghost use Rattle.trellis.specs.Table.{tableOf, systematic as systematicTable};
 ghost use Rattle.trellis.specs.Outcome.{pathless, position, marks as marksOf, margins as marginsOf, extrinsics as extrinsicsOf};
-ghost use Rattle.trellis.specs.Sweeps.{home, forward as forwardRow};
-ghost use Rattle.siso.specs.Held.{there, row};
-ghost use Rattle.siso.specs.Between.{Between};
+ghost use Rattle.trellis.specs.laws.Sweeps.{boundary, forward as forwardRow};
+ghost use Rattle.siso.specs.laws.Held.{there, row};
+ghost use Rattle.siso.specs.laws.Between.{Between};
 ghost use Rattle.siso.specs.Decode.{walked, settled};
-ghost use Rattle.siso.specs.Lent.{valuesOf, callOf, lentOf, resultOf, Pass, Forward};
+ghost use Rattle.siso.specs.Lent.{valuesOf, callOf, lentOf, resultOf};
+ghost use Rattle.siso.specs.laws.Pass.{Pass, Forward};
 use crate::metric::Metric;
 use refusal::Refusal;
 use refusal::Reply;
@@ -33,9 +34,9 @@ fn forward(
     requires { ⌜ Pass (tableOf states outputs (now next) (now words)) sections (valuesOf (now channel) (now apriori)) ⌝ }
     requires { ⌜ length (now work) ≡ (sections + 1) * states ⌝ }
     ensures { λ _. ⌜ Forward (tableOf states outputs (now (next .entry)) (now (words .entry))) (valuesOf (now (channel .entry)) (now (apriori .entry))) sections (now (work .exit)) ⌝ }
-    ensures { λ r. ⌜ ((s : ℕ) → s < states → row r s ≡ forwardRow (tableOf states outputs (now (next .entry)) (now (words .entry))) (valuesOf (now (channel .entry)) (now (apriori .entry))) home sections s) ⌝ }
+    ensures { λ r. ⌜ ((s : ℕ) → s < states → row r s ≡ forwardRow (tableOf states outputs (now (next .entry)) (now (words .entry))) (valuesOf (now (channel .entry)) (now (apriori .entry))) boundary sections s) ⌝ }
 {
-    let mut m = crate::metric::home();
+    let mut m = crate::metric::boundary();
     crate::metric::save(m, states, work, 0);
     let mut k: usize = 0;
     while k < sections {
@@ -115,7 +116,7 @@ fn backward(
     ensures { λ _. ⌜ now (extrinsics .exit) ≡ extrinsicsOf (tableOf states outputs (now (next .entry)) (now (words .entry))) (valuesOf (now (channel .entry)) (now (apriori .entry))) sections sections ⌝ }
 {
     let sys = trellis::is_systematic(states, outputs, next, words);
-    let mut m = crate::metric::home();
+    let mut m = crate::metric::boundary();
     let mut left = sections;
     while 0 < left {
         let k = left - 1;

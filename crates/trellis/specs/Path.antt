@@ -65,12 +65,12 @@ allBits zero = [] ∷ []
 allBits (suc n) = map (λ p. 0 ∷ p) (allBits n) ++ map (λ p. 1 ∷ p) (allBits n)
 
 -- every list of n input bits that leads from state s to state 0
-unfoldable pub homeward : Table → ℕ → ℕ → List (List ℕ)
-homeward t s n = keep (λ p. eqb (finish t s p) 0) (allBits n)
+unfoldable pub terminating : Table → ℕ → ℕ → List (List ℕ)
+terminating t s n = keep (λ p. eqb (finish t s p) 0) (allBits n)
 
 -- the paths of n sections: they start in state 0 and end in state 0
 unfoldable pub paths : Table → ℕ → List TrellisPath
-paths t n = map (λ p. record { start = 0; bits = p }) (homeward t 0 n)
+paths t n = map (λ p. record { start = 0; bits = p }) (terminating t 0 n)
 
 -- the class of bit b at position k: the paths whose input bit there is b
 unfoldable pub class : Table → ℕ → ℕ → ℕ → List TrellisPath

@@ -1,47 +1,4 @@
-// The turbo frame: interleaver, masks, tails and the coder. The house code comes with it.
-ghost use mathlib.Core.Path.{_≡_};
-ghost use Rattle.turbo.specs.Coder.{encode as encoded};
-ghost use Rattle.turbo.specs.Lent.{encodeOf, encodedOf};
-
-mod checks;
-mod coder;
-mod frame;
-mod interleaver;
-mod tail;
-
+// The turbo code under one name: the coder and the house table.
+pub use coder::encode;
 pub use house::house_next;
 pub use house::house_words;
-use refusal::Reply;
-
-// The frame sent for a message, a bit an entry.
-pub fn encode(
-    states: usize,
-    outputs: usize,
-    next: &[u8],
-    words: &[u8],
-    bits: usize,
-    tail: usize,
-    message: &[u8],
-    pattern: &[u32],
-    masks: &[u8],
-    sent: &mut [u8],
-) -> Reply
-    ensures { λ r. ⌜ encodedOf r (now (sent .exit)) ≡ encoded (encodeOf states outputs (now (next .entry)) (now (words .entry)) bits tail (now (message .entry)) (now (pattern .entry)) (now (masks .entry))) (now (sent .entry)) ⌝ }
-{
-    let reply = checks::encode_reply(
-        states,
-        outputs,
-        next,
-        words,
-        bits,
-        tail,
-        message,
-        pattern,
-        masks,
-        sent,
-    );
-    if let Reply::Refused(_) = reply {
-        return reply;
-    }
-    coder::run(next, words, bits, tail, message, pattern, masks, sent)
-}

@@ -5,7 +5,7 @@ use Prim.Native.Nat.{ℕ, _+_, _*_, _/_, _%_, _-_, _≤_}
 use native.Mathlib.Omega.{arith}
 use lib.ListN.{length, length-set}
 use borrow.Author.Needs.{needs}
-use Rattle.lists.specs.Stores.{Filled, filled-none, filled-more, filled-all}
+use Rattle.lists.specs.laws.Stores.{Filled, filled-none, filled-more, filled-all}
 use Rattle.house.specs.House.{houseParity, house}
 use Rattle.house.proofs.house_words.Statement.{statement}
 use Rattle.house.proofs.house_words.Tie as tie

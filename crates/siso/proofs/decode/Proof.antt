@@ -2,8 +2,8 @@
 -- Assumes nothing.
 use mathlib.Core.Path.{sym, _∙_}
 use borrow.Author.Needs.{needs}
-use Rattle.siso.specs.Accepted.{accepted}
-use Rattle.siso.specs.Settled.{decode-refused, decode-walked}
+use Rattle.siso.specs.laws.Accepted.{accepted}
+use Rattle.siso.specs.laws.Settled.{decode-refused, decode-walked}
 use Rattle.siso.proofs.decode.Statement.{statement}
 use Rattle.siso.proofs.decode.Tie as tie
 

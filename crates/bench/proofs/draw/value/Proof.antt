@@ -4,7 +4,7 @@ use borrow.Author.Needs.{needs}
 use native.Mathlib.Omega.{arith}
 use mir.Syntax.{w16}
 use mir.Facts.{toZ-pos}
-use Rattle.integers.specs.Linear.{ints}
+use Rattle.integers.specs.laws.Linear.{ints}
 use Rattle.bench.proofs.draw.value.Statement.{statement}
 use Rattle.bench.proofs.draw.value.Tie as tie
 

@@ -2,7 +2,7 @@
 -- Assumes nothing.
 use borrow.Author.Needs.{needs}
 use native.Mathlib.Omega.{arith}
-use Rattle.integers.specs.Linear.{ints, plain, widen}
+use Rattle.integers.specs.laws.Linear.{ints, plain, widen}
 use Rattle.bench.proofs.listing.signed.Statement.{statement}
 use Rattle.bench.proofs.listing.signed.Tie as tie
 

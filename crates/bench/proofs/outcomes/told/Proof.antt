@@ -1,7 +1,7 @@
 -- `bench::outcomes::told` is safe: each 16-bit value fits the wider type, and the sum guards itself.
 -- Assumes nothing.
 use borrow.Author.Needs.{needs}
-use Rattle.integers.specs.Linear.{plain, widen}
+use Rattle.integers.specs.laws.Linear.{plain, widen}
 use Rattle.bench.proofs.outcomes.told.Statement.{statement}
 use Rattle.bench.proofs.outcomes.told.Tie as tie
 

@@ -1,7 +1,7 @@
 -- `bench::safe::halved` is safe: half of a number fits where the number does.
 -- Assumes nothing.
 use native.Mathlib.Omega.{arith}
-use Rattle.integers.specs.Linear.{ints, plain}
+use Rattle.integers.specs.laws.Linear.{ints, plain}
 use borrow.Author.Needs.{needs}
 use Rattle.bench.proofs.safe.halved.Statement.{statement}
 use Rattle.bench.proofs.safe.halved.Tie as tie

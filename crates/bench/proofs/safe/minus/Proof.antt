@@ -1,8 +1,8 @@
 -- `bench::safe::minus` is safe: past its tests the number has an opposite.
 -- Assumes nothing.
 use native.Mathlib.Omega.{arith}
-use Rattle.integers.specs.Linear.{ints}
-use Rattle.integers.specs.Parts.{parts}
+use Rattle.integers.specs.laws.Linear.{ints}
+use Rattle.integers.specs.laws.Parts.{parts}
 use borrow.Author.Needs.{needs}
 use Rattle.bench.proofs.safe.minus.Statement.{statement}
 use Rattle.bench.proofs.safe.minus.Tie as tie

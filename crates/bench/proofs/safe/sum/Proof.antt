@@ -2,8 +2,8 @@
 -- Assumes nothing.
 use borrow.Author.Needs.{needs}
 use native.Mathlib.Omega.{arith}
-use Rattle.integers.specs.Linear.{ints}
-use Rattle.integers.specs.Parts.{parts}
+use Rattle.integers.specs.laws.Linear.{ints}
+use Rattle.integers.specs.laws.Parts.{parts}
 use Rattle.bench.proofs.safe.sum.Statement.{statement}
 use Rattle.bench.proofs.safe.sum.Tie as tie
 

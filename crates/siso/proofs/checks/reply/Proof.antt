@@ -4,14 +4,14 @@ use mathlib.Core.Path.{_≡_, sym, _∙_}
 use mathlib.Core.Bool.{true, _&&_, and-false}
 use borrow.Author.Needs.{needs}
 use borrow.Author.Tests.{le-leb, lt-leb}
-use Rattle.lists.specs.Tests.{and-true}
+use Rattle.lists.specs.laws.Tests.{and-true}
 use Rattle.refusal.specs.declared.Refusal.the-variants.{Shape, Branch, Length, Lists, Value}
 use Rattle.refusal.specs.declared.Reply.{Reply}
 use Rattle.refusal.specs.declared.Reply.the-variants.{Done}
 use Rattle.refusal.specs.Refusals.{check, _then_}
-use Rattle.refusal.specs.Checks.{first-passed, done-then, refused-then, then-assoc, fails-first, passes-first}
+use Rattle.refusal.specs.laws.Checks.{first-passed, done-then, refused-then, then-assoc, fails-first, passes-first}
 use Rattle.trellis.specs.Table.{shaped, branched}
-use Rattle.trellis.specs.Branches.{shaped-is}
+use Rattle.trellis.specs.laws.Branches.{shaped-is}
 use Rattle.trellis.specs.Limits.{sectionsFit, channelFits, aprioriFits}
 use Rattle.siso.specs.Decode.{Call, Lent, listsFit, checked}
 use Rattle.siso.specs.Lent.{callOf, lentOf}

@@ -3,9 +3,9 @@
 use borrow.Author.Needs.{needs}
 use mir.Syntax.{w32}
 use mir.Val.{SFits}
-use Rattle.integers.specs.Linear.{plain}
-use Rattle.trellis.specs.MaxPlus.{plus-none}
-use Rattle.trellis.specs.Sizes.{small-known}
+use Rattle.integers.specs.laws.Linear.{plain}
+use Rattle.trellis.specs.laws.MaxPlus.{plus-none}
+use Rattle.trellis.specs.laws.Sizes.{small-known}
 use Rattle.siso.proofs.metric.join.Statement.{statement}
 use Rattle.siso.proofs.metric.join.Tie as tie
 

@@ -3,7 +3,7 @@
 use borrow.Author.Needs.{needs}
 use mir.Syntax.{w32}
 use mir.Val.{SFits}
-use Rattle.integers.specs.Linear.{plain}
+use Rattle.integers.specs.laws.Linear.{plain}
 use Rattle.trellis.specs.Outcome.{larger}
 use Rattle.siso.proofs.metric.larger.Statement.{statement}
 use Rattle.siso.proofs.metric.larger.Tie as tie

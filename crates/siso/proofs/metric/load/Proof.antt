@@ -8,9 +8,9 @@ use lib.IntN.{pos}
 use lib.ListN.{length, getD, length-set}
 use mir.Syntax.{w32}
 use mir.Val.{SFits}
-use Rattle.integers.specs.Linear.{plain, fits-of}
+use Rattle.integers.specs.laws.Linear.{plain, fits-of}
 use Rattle.siso.specs.declared.metric.Metric.the-variants.{Unreached}
-use Rattle.siso.specs.Held.{there, row, metricOf}
+use Rattle.siso.specs.laws.Held.{there, row, metricOf}
 use Rattle.siso.proofs.Rows.{one-more}
 use Rattle.siso.proofs.metric.load.Statement.{statement}
 use Rattle.siso.proofs.metric.load.Tie as tie

@@ -1,8 +1,8 @@
 -- `metric::max` returns the larger of two numbers: the test is the definition's own.
 -- Assumes nothing.
 use native.Mathlib.Omega.{arith}
-use Rattle.integers.specs.Linear.{ints}
-use Rattle.integers.specs.Parts.{parts}
+use Rattle.integers.specs.laws.Linear.{ints}
+use Rattle.integers.specs.laws.Parts.{parts}
 use Rattle.siso.proofs.metric.max.Statement.{statement}
 use Rattle.siso.proofs.metric.max.Tie as tie
 

@@ -6,10 +6,10 @@ use mir.Facts.{toZ-ofZ}
 use mir.Syntax.{w32}
 use mir.Val.{SFits}
 use lib.IntN.{ℤ, _+ℤ_}
-use Rattle.integers.specs.Integers.{Within}
-use Rattle.integers.specs.Linear.{ints, plain}
-use Rattle.trellis.specs.MaxPlus.{plus}
-use Rattle.trellis.specs.Sizes.{small-known}
+use Rattle.integers.specs.laws.Bounds.{Within}
+use Rattle.integers.specs.laws.Linear.{ints, plain}
+use Rattle.trellis.specs.laws.MaxPlus.{plus}
+use Rattle.trellis.specs.laws.Sizes.{small-known}
 use Rattle.siso.proofs.metric.plus.Statement.{statement}
 use Rattle.siso.proofs.metric.plus.Tie as tie
 

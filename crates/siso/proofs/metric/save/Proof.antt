@@ -8,7 +8,7 @@ use lib.ListN.{length, length-set}
 use mir.Facts.{toZ-ofZ}
 use mir.Syntax.{w32}
 use mir.Val.{SFits}
-use Rattle.siso.specs.Held.{Saved}
+use Rattle.siso.specs.laws.Held.{Saved}
 use Rattle.siso.proofs.Working.{saved-none, saved-more}
 use Rattle.siso.proofs.metric.save.Statement.{statement}
 use Rattle.siso.proofs.metric.save.Tie as tie

@@ -10,11 +10,12 @@ use lib.IntN.{ℤ, pos, _-ℤ_}
 use lib.Signed.{quotZ}
 use mir.Syntax.{w32}
 use mir.Val.{SFits}
-use Rattle.integers.specs.Integers.{Within, half}
-use Rattle.integers.specs.Linear.{ints, plain}
+use Rattle.integers.specs.laws.Bounds.{Within}
+use Rattle.integers.specs.Integers.{half}
+use Rattle.integers.specs.laws.Linear.{ints, plain}
 use Rattle.trellis.specs.declared.Outcome.the-variants.{Forced}
 use Rattle.trellis.specs.Outcome.{outcomeOf, positionOf, extrinsic}
-use Rattle.trellis.specs.Sizes.{small-known}
+use Rattle.trellis.specs.laws.Sizes.{small-known}
 use Rattle.siso.proofs.position.settled.Statement.{statement}
 use Rattle.siso.proofs.position.settled.Tie as tie
 

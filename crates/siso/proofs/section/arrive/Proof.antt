@@ -3,8 +3,8 @@
 use borrow.Author.Needs.{needs}
 use native.Mathlib.Omega.{arith}
 use mathlib.Core.Path.{_∙_}
-use Rattle.integers.specs.Linear.{plain}
-use Rattle.trellis.specs.Sweeps.{arriving}
+use Rattle.integers.specs.laws.Linear.{plain}
+use Rattle.trellis.specs.laws.Sweeps.{arriving}
 use Rattle.siso.proofs.Branch.{held-small, target-inside, leads-to-state, word-inside}
 use Rattle.siso.proofs.section.arrive.Statement.{statement}
 use Rattle.siso.proofs.section.arrive.Tie as tie
@@ -17,19 +17,19 @@ array-copy-out-x c = search needs
 
 target-requires : tie.Need-target-requires
 target-requires c κs =
-    let (branches, (gains, (held, (state, bit)))) = c .before .before .before .pre in
+    let (branches, (branch-metrics, (held, (state, bit)))) = c .before .before .before .pre in
     target-inside branches state bit
 
 along-requires : tie.Need-along-requires
 along-requires c κs =
     let start = c .before .before .before .before in
-    let (branches, (gains, (held, (state, bit)))) = start .pre in
+    let (branches, (branch-metrics, (held, (state, bit)))) = start .pre in
     let a-fits = start .fits .a in
-    simp plain (held-small held _ state, word-inside branches state bit gains)
+    simp plain (held-small held _ state, word-inside branches state bit branch-metrics)
 
 offer-requires : tie.Need-offer-requires
 offer-requires c κs =
-    let (branches, (gains, (held, (state, bit)))) = c .before .before .before .before .before .pre in
+    let (branches, (branch-metrics, (held, (state, bit)))) = c .before .before .before .before .before .pre in
     rw (c .before .target .ensures) (omega (arith, leads-to-state branches state bit))
 
 returns : tie.Need-returns

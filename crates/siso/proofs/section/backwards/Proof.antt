@@ -7,10 +7,10 @@ use Prim.Native.Nat.{ℕ, _-_, _≤_, _<_}
 use lib.ListN.{length, length-set}
 use mir.Syntax.{w32}
 use mir.Val.{toZ}
-use Rattle.integers.specs.Linear.{plain}
-use Rattle.trellis.specs.Sweeps.{retreat}
+use Rattle.integers.specs.laws.Linear.{plain}
+use Rattle.trellis.specs.laws.Sweeps.{retreat}
 use Rattle.siso.specs.declared.metric.Metric.the-variants.{Unreached}
-use Rattle.siso.specs.Held.{there, row, targetOf, gainOf}
+use Rattle.siso.specs.laws.Held.{there, row, targetOf, branchMetricOf}
 use Rattle.siso.proofs.Branch.{branch-asked}
 use Rattle.siso.proofs.Rows.{one-more}
 use Rattle.siso.proofs.section.backwards.Statement.{statement}
@@ -18,7 +18,7 @@ use Rattle.siso.proofs.section.backwards.Tie as tie
 
 abbrev Inv-loop : tie.InvT-loop
 Inv-loop next words states g a m out₀ s₀ out s =
-    (s ≤ states) × (length out ≡ 16) × ((j : ℕ) → j < s → row out j ≡ retreat (targetOf next) (gainOf words g (toZ w32 a)) (row m) j)
+    (s ≤ states) × (length out ≡ 16) × ((j : ℕ) → j < s → row out j ≡ retreat (targetOf next) (branchMetricOf words g (toZ w32 a)) (row m) j)
 
 abbrev μ-loop : tie.MeasureT-loop
 μ-loop next words states g a m out₀ s₀ out s = states - s
@@ -29,14 +29,14 @@ loop-holds c = (omega arith, refl, λ j h. absurd (omega arith))
 onward-requires : tie.Need-onward-requires Inv-loop μ-loop
 onward-requires c κs =
     let start = c .before .before .before .before in
-    let (branches, (gains, held)) = start .pre in
-    branch-asked (start .fits .a) branches gains held (c .loop-test .taken) (omega arith)
+    let (branches, (branch-metrics, held)) = start .pre in
+    branch-asked (start .fits .a) branches branch-metrics held (c .loop-test .taken) (omega arith)
 
 onward-requires-2 : tie.Need-onward-requires-2 Inv-loop μ-loop
 onward-requires-2 c κs =
     let start = c .before .before .before .before .before in
-    let (branches, (gains, held)) = start .pre in
-    branch-asked (start .fits .a) branches gains held (c .before .loop-test .taken) (omega arith)
+    let (branches, (branch-metrics, held)) = start .pre in
+    branch-asked (start .fits .a) branches branch-metrics held (c .before .loop-test .taken) (omega arith)
 
 larger-requires : tie.Need-larger-requires Inv-loop μ-loop
 larger-requires c κs = search needs

@@ -7,10 +7,10 @@ use mathlib.Core.Path.{_≡_, sym, _∙_}
 use Prim.Native.Nat.{_-_, _≤_}
 use mir.Syntax.{w32}
 use mir.Val.{toZ}
-use Rattle.integers.specs.Linear.{plain}
-use Rattle.trellis.specs.Over.{over, over-zero}
-use Rattle.trellis.specs.Sweeps.{passing}
-use Rattle.siso.specs.Held.{there, row, targetOf, gainOf}
+use Rattle.integers.specs.laws.Linear.{plain}
+use Rattle.trellis.specs.laws.Over.{over, over-zero}
+use Rattle.trellis.specs.laws.Sweeps.{passing}
+use Rattle.siso.specs.laws.Held.{there, row, targetOf, branchMetricOf}
 use Rattle.siso.proofs.Branch.{branch-asked, held-small, departing-small}
 use Rattle.siso.proofs.Steps.{over-more}
 use Rattle.siso.proofs.section.best.Statement.{statement}
@@ -18,7 +18,7 @@ use Rattle.siso.proofs.section.best.Tie as tie
 
 abbrev Inv-loop : tie.InvT-loop
 Inv-loop next words states g a m b f top₀ s₀ top s =
-    (s ≤ states) × (there top ≡ over s (passing (targetOf next) (gainOf words g (toZ w32 a)) (row f) (row m) b))
+    (s ≤ states) × (there top ≡ over s (passing (targetOf next) (branchMetricOf words g (toZ w32 a)) (row f) (row m) b))
 
 abbrev μ-loop : tie.MeasureT-loop
 μ-loop next words states g a m b f top₀ s₀ top s = states - s
@@ -35,17 +35,17 @@ array-copy-out-x c = search needs
 onward-requires : tie.Need-onward-requires Inv-loop μ-loop
 onward-requires c κs =
     let start = c .before .before .before .before .before in
-    let (branches, (gains, (before, (after, bit)))) = start .pre in
-    branch-asked (start .fits .a) branches gains after (c .before .loop-test .taken) bit
+    let (branches, (branch-metrics, (before, (after, bit)))) = start .pre in
+    branch-asked (start .fits .a) branches branch-metrics after (c .before .loop-test .taken) bit
 
 join-requires : tie.Need-join-requires Inv-loop μ-loop
 join-requires c κs =
     let start = c .before .before .before .before .before .before in
-    let (branches, (gains, (before, (after, bit)))) = start .pre in
+    let (branches, (branch-metrics, (before, (after, bit)))) = start .pre in
     let a-fits = start .fits .a in
     let state = c .before .before .loop-test .taken in
     let onward = simp plain at (c .onward .ensures) in
-    (held-small before _ state, rw onward (departing-small branches state bit gains after))
+    (held-small before _ state, rw onward (departing-small branches state bit branch-metrics after))
 
 larger-requires : tie.Need-larger-requires Inv-loop μ-loop
 larger-requires c κs = search needs

@@ -6,9 +6,9 @@ use mathlib.Core.Path.{_≡_, sym, _∙_}
 use Prim.Native.Nat.{ℕ, _-_, _≤_}
 use mir.Syntax.{w32}
 use mir.Val.{toZ}
-use Rattle.integers.specs.Linear.{plain}
-use Rattle.trellis.specs.Sweeps.{advance}
-use Rattle.siso.specs.Held.{row, targetOf, gainOf}
+use Rattle.integers.specs.laws.Linear.{plain}
+use Rattle.trellis.specs.laws.Sweeps.{advance}
+use Rattle.siso.specs.laws.Held.{row, targetOf, branchMetricOf}
 use Rattle.siso.proofs.Branch.{branch-asked}
 use Rattle.siso.proofs.Rows.{unreached}
 use Rattle.siso.proofs.Steps.{advance-none, advance-more}
@@ -17,7 +17,7 @@ use Rattle.siso.proofs.section.forwards.Tie as tie
 
 abbrev Inv-loop : tie.InvT-loop
 Inv-loop next words states g a m out₀ s₀ out s =
-    (s ≤ states) × ((r : ℕ) → row out r ≡ advance (targetOf next) (gainOf words g (toZ w32 a)) s (row m) r)
+    (s ≤ states) × ((r : ℕ) → row out r ≡ advance (targetOf next) (branchMetricOf words g (toZ w32 a)) s (row m) r)
 
 abbrev μ-loop : tie.MeasureT-loop
 μ-loop next words states g a m out₀ s₀ out s = states - s
@@ -28,14 +28,14 @@ loop-holds c = (omega arith, λ r. unreached 16 r ∙ sym (advance-none _ _ _ r)
 arrive-requires : tie.Need-arrive-requires Inv-loop μ-loop
 arrive-requires c κs =
     let start = c .before .before .before .before in
-    let (branches, (gains, held)) = start .pre in
-    branch-asked (start .fits .a) branches gains held (c .loop-test .taken) (omega arith)
+    let (branches, (branch-metrics, held)) = start .pre in
+    branch-asked (start .fits .a) branches branch-metrics held (c .loop-test .taken) (omega arith)
 
 arrive-requires-2 : tie.Need-arrive-requires-2 Inv-loop μ-loop
 arrive-requires-2 c κs =
     let start = c .before .before .before .before .before in
-    let (branches, (gains, held)) = start .pre in
-    branch-asked (start .fits .a) branches gains held (c .before .loop-test .taken) (omega arith)
+    let (branches, (branch-metrics, held)) = start .pre in
+    branch-asked (start .fits .a) branches branch-metrics held (c .before .loop-test .taken) (omega arith)
 
 add-s : tie.Need-add-s Inv-loop μ-loop
 add-s c = search needs

@@ -3,22 +3,22 @@
 -- Assumes nothing.
 use native.Mathlib.Omega.{arith}
 use Prim.Native.Nat.{_<_}
-use Rattle.integers.specs.Linear.{plain}
-use Rattle.trellis.specs.MaxPlus.{plus-comm}
-use Rattle.trellis.specs.Sweeps.{departing}
+use Rattle.integers.specs.laws.Linear.{plain}
+use Rattle.trellis.specs.laws.MaxPlus.{plus-comm}
+use Rattle.trellis.specs.laws.Sweeps.{departing}
 use Rattle.siso.proofs.Branch.{held-small, target-inside, leads-to-state, word-inside}
 use Rattle.siso.proofs.section.onward.Statement.{statement}
 use Rattle.siso.proofs.section.onward.Tie as tie
 
 target-requires : tie.Need-target-requires
 target-requires c κs =
-    let (branches, (gains, (held, (state, bit)))) = c .before .before .pre in
+    let (branches, (branch-metrics, (held, (state, bit)))) = c .before .before .pre in
     target-inside branches state bit
 
 -- where it leads is a state
 leads : (c : tie.After-target) → c .target .result < c .before .before .before .args .states
 leads c =
-    let (branches, (gains, (held, (state, bit)))) = c .before .before .before .pre in
+    let (branches, (branch-metrics, (held, (state, bit)))) = c .before .before .before .pre in
     rw (c .target .ensures) (leads-to-state branches state bit)
 
 mul-x : tie.Need-mul-x
@@ -30,9 +30,9 @@ array-copy-out-x c = omega (arith, leads c, c .before .before .before .pre .0)
 along-requires : tie.Need-along-requires
 along-requires c κs =
     let start = c .before .before .before .before in
-    let (branches, (gains, (held, (state, bit)))) = start .pre in
+    let (branches, (branch-metrics, (held, (state, bit)))) = start .pre in
     let a-fits = start .fits .a in
-    simp plain (held-small held _ (leads (c .before)), word-inside branches state bit gains)
+    simp plain (held-small held _ (leads (c .before)), word-inside branches state bit branch-metrics)
 
 returns : tie.Need-returns
 unfolding departing

@@ -8,8 +8,8 @@ use lib.IntN.{ℤ, pos, _-ℤ_}
 use mir.Facts.{toZ-ofZ}
 use mir.Syntax.{w32}
 use mir.Val.{SFits}
-use Rattle.integers.specs.Integers.{Within}
-use Rattle.integers.specs.Linear.{ints, plain}
+use Rattle.integers.specs.laws.Bounds.{Within}
+use Rattle.integers.specs.laws.Linear.{ints, plain}
 use Rattle.trellis.specs.Path.{signed}
 use Rattle.siso.proofs.section.signed.Statement.{statement}
 use Rattle.siso.proofs.section.signed.Tie as tie

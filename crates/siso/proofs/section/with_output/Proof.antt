@@ -9,11 +9,11 @@ use lib.ListN.{length, getD, length-set}
 use mir.Facts.{toZ-ofZ}
 use mir.Syntax.{w32}
 use mir.Val.{SFits, toZ, ofZ}
-use Rattle.integers.specs.Integers.{Within}
-use Rattle.integers.specs.Laws.{within-more}
-use Rattle.integers.specs.Linear.{ints, plain, fits-of}
+use Rattle.integers.specs.laws.Bounds.{Within}
+use Rattle.integers.specs.laws.Laws.{within-more}
+use Rattle.integers.specs.laws.Linear.{ints, plain, fits-of}
 use Rattle.trellis.specs.Path.{signed}
-use Rattle.trellis.specs.Signs.{signed-within}
+use Rattle.trellis.specs.laws.Signs.{signed-within}
 use Rattle.trellis.specs.Table.{output}
 use Rattle.siso.proofs.Rows.{one-more}
 use Rattle.siso.proofs.section.with_output.Statement.{statement}

@@ -9,10 +9,10 @@ use lib.ListN.{length, getD, getD-replicate}
 use native.Mathlib.Numerals.{add-one}
 use mir.Syntax.{w16}
 use mir.Val.{SFits}
-use Rattle.integers.specs.Laws.{within-more}
-use Rattle.integers.specs.Linear.{plain, fits-of, widen}
+use Rattle.integers.specs.laws.Laws.{within-more}
+use Rattle.integers.specs.laws.Linear.{plain, fits-of, widen}
 use Rattle.trellis.specs.Path.{wordMetric}
-use Rattle.trellis.specs.Sizes.{word-within}
+use Rattle.trellis.specs.laws.Sizes.{word-within}
 use Rattle.siso.proofs.section.word_metrics.Statement.{statement}
 use Rattle.siso.proofs.section.word_metrics.Tie as tie
 

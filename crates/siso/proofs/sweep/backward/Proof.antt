@@ -10,16 +10,17 @@ use lib.IntN.{pos}
 use lib.ListN.{getD}
 use mir.Syntax.{w16}
 use mir.Val.{SFits}
-use Rattle.integers.specs.Linear.{plain, fits-of, widen}
+use Rattle.integers.specs.laws.Linear.{plain, fits-of, widen}
 use Rattle.trellis.specs.Table.{Table, tableOf}
 use Rattle.trellis.specs.Path.{Values, aprioriAt}
-use Rattle.trellis.specs.Sweeps.{home, backward, backward-end}
-use Rattle.siso.specs.Between.{Between, back-asked, back-is}
-use Rattle.siso.specs.Gathered.{gathered, part-length, part-within}
-use Rattle.siso.specs.Held.{row}
-use Rattle.siso.specs.Lent.{valuesOf, Pass}
-use Rattle.siso.specs.Passed.{table-limits, few-sections}
-use Rattle.siso.specs.Steps.{Agree}
+use Rattle.trellis.specs.laws.Sweeps.{boundary, backward, backward-end}
+use Rattle.siso.specs.laws.Between.{Between, back-asked, back-is}
+use Rattle.siso.specs.laws.Gathered.{gathered, part-length, part-within}
+use Rattle.siso.specs.laws.Held.{row}
+use Rattle.siso.specs.Lent.{valuesOf}
+use Rattle.siso.specs.laws.Pass.{Pass}
+use Rattle.siso.specs.laws.Passed.{table-limits, few-sections}
+use Rattle.siso.specs.laws.Steps.{Agree}
 use Rattle.siso.proofs.Places.{channel-place, work-place}
 use Rattle.siso.proofs.Written.{Written, written-none, written-more, written-all}
 use Rattle.siso.proofs.sweep.backward.Statement.{statement}
@@ -30,7 +31,7 @@ Inv-loop states outputs next words sections channel apriori marks₀ margins₀ 
     let t = tableOf states outputs next words in
     let v = valuesOf channel apriori in
     (left ≤ sections)
-    × Agree states (row m) (backward t v home left (sections - left))
+    × Agree states (row m) (backward t v boundary left (sections - left))
     × Written t v sections left marks margins extrinsics
 
 abbrev μ-loop : tie.MeasureT-loop
@@ -62,13 +63,13 @@ here c = omega arith
 is-systematic-requires : tie.Need-is-systematic-requires Inv-loop μ-loop
 is-systematic-requires c κs = search needs
 
-home-requires : tie.Need-home-requires Inv-loop μ-loop
-home-requires c κs = search needs
+boundary-requires : tie.Need-boundary-requires Inv-loop μ-loop
+boundary-requires c κs = search needs
 
 loop-holds : tie.Need-loop-holds Inv-loop μ-loop
 loop-holds c =
     let (pass, (path, (work-long, (forward, (marks-long, (margins-long, extrinsics-long)))))) = c .before .before .before .before .before .pre in
-    (omega arith, λ s l. rw (backward-end _ _ home _) (c .home .ensures s), written-none _ _ _ marks-long margins-long extrinsics-long)
+    (omega arith, λ s l. rw (backward-end _ _ boundary _) (c .boundary .ensures s), written-none _ _ _ marks-long margins-long extrinsics-long)
 
 -- ---- a turn
 
@@ -202,7 +203,7 @@ backward-spec =
     Inv-loop
     μ-loop
     is-systematic-requires
-    home-requires
+    boundary-requires
     loop-holds
     sub-k
     mul-from

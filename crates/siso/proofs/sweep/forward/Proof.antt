@@ -10,16 +10,17 @@ use lib.IntN.{pos}
 use lib.ListN.{length, getD}
 use mir.Facts.{toZ-ofZ}
 use borrow.Author.Needs.{needs}
-use Rattle.integers.specs.Linear.{fits-of, widen, read-back}
+use Rattle.integers.specs.laws.Linear.{fits-of, widen, read-back}
 use Rattle.trellis.specs.Table.{Table, tableOf}
 use Rattle.trellis.specs.Path.{Values, aprioriAt}
-use Rattle.trellis.specs.Sweeps.{home, forward, forward-start}
+use Rattle.trellis.specs.laws.Sweeps.{boundary, forward, forward-start}
 use Rattle.siso.specs.declared.metric.Metric.{Metric}
-use Rattle.siso.specs.Held.{row}
-use Rattle.siso.specs.Lent.{valuesOf, Forward}
-use Rattle.siso.specs.Passed.{table-limits, few-sections, table-branches}
-use Rattle.siso.specs.Gathered.{Gathered, part-length, part-within, gathered, gathered-gains}
-use Rattle.siso.specs.Steps.{Agree, next-forward, forward-held}
+use Rattle.siso.specs.laws.Held.{row}
+use Rattle.siso.specs.Lent.{valuesOf}
+use Rattle.siso.specs.laws.Pass.{Forward}
+use Rattle.siso.specs.laws.Passed.{table-limits, few-sections, table-branches}
+use Rattle.siso.specs.laws.Gathered.{Gathered, part-length, part-within, gathered, gathered-branch-metrics}
+use Rattle.siso.specs.laws.Steps.{Agree, next-forward, forward-held}
 use Rattle.siso.proofs.ForwardRows.{rows-start, rows-more}
 use Rattle.siso.proofs.Places.{channel-place, work-place}
 use Rattle.siso.proofs.sweep.forward.Statement.{statement}
@@ -29,7 +30,7 @@ abbrev Inv-loop : tie.InvT-loop
 Inv-loop states outputs next words sections channel apriori work₀ m₀ k₀ work m k =
     (k ≤ sections)
     × (length work ≡ (sections + 1) * states)
-    × Agree states (row m) (forward (tableOf states outputs next words) (valuesOf channel apriori) home k)
+    × Agree states (row m) (forward (tableOf states outputs next words) (valuesOf channel apriori) boundary k)
     × Forward (tableOf states outputs next words) (valuesOf channel apriori) k work
 
 abbrev μ-loop : tie.MeasureT-loop
@@ -81,7 +82,7 @@ row-moved :
     (forward
     (tableOf (start (c .before .before .before .before) .args .states) (start (c .before .before .before .before) .args .outputs) (start (c .before .before .before .before) .args .next .now) (start (c .before .before .before .before) .args .words .now))
     (valuesOf (start (c .before .before .before .before) .args .channel .now) (start (c .before .before .before .before) .args .apriori .now))
-    home
+    boundary
     (suc (c .before .before .before .before .before .loop .k)))
 row-moved c s l =
     let turn = c .before .before .before .before in
@@ -89,13 +90,13 @@ row-moved c s l =
     ∙ next-forward (start turn .pre .0) (section-gathered (c .before)) (turn .before .loop .inv .2) s
 
 -- the row that the sweep starts with
-row-started : (t : Table) (v : Values) (m : List Metric) (states : ℕ) → ((s : ℕ) → row m s ≡ home s) → Agree states (row m) (forward t v home 0)
-row-started t v m states h s l = h s ∙ sym (ap (λ f. f s) (forward-start t v home))
+row-started : (t : Table) (v : Values) (m : List Metric) (states : ℕ) → ((s : ℕ) → row m s ≡ boundary s) → Agree states (row m) (forward t v boundary 0)
+row-started t v m states h s l = h s ∙ sym (ap (λ f. f s) (forward-start t v boundary))
 
 -- ---- the needs
 
-home-requires : tie.Need-home-requires Inv-loop μ-loop
-home-requires c κs = search needs
+boundary-requires : tie.Need-boundary-requires Inv-loop μ-loop
+boundary-requires c κs = search needs
 
 save-requires : tie.Need-save-requires Inv-loop μ-loop
 save-requires c κs =
@@ -105,7 +106,7 @@ save-requires c κs =
 loop-holds : tie.Need-loop-holds Inv-loop μ-loop
 loop-holds c =
     let first = c .before .before .before .before .before .before in
-    let same = row-started _ _ (c .before .before .before .home .result) _ (c .before .before .before .home .ensures) in
+    let same = row-started _ _ (c .before .before .before .boundary .result) _ (c .before .before .before .boundary .ensures) in
     (omega arith, c .before .save .kept .1 .1 .0 ∙ first .pre .1, same, rows-start (first .pre .0) same (c .before .save .ensures))
 
 mul-from : tie.Need-mul-from Inv-loop μ-loop
@@ -146,7 +147,7 @@ forwards-requires : tie.Need-forwards-requires Inv-loop μ-loop
 forwards-requires c κs =
     let p = start (c .before .before .before) .pre .0 in
     rw (read-back (fits-of (c .forwards-arg .given)))
-    (table-branches p, (gathered-gains p (section-gathered c), forward-held p _ (c .before .before .before .before .loop .inv .0) (c .before .before .before .before .loop .inv .2)))
+    (table-branches p, (gathered-branch-metrics p (section-gathered c), forward-held p _ (c .before .before .before .before .loop .inv .0) (c .before .before .before .before .loop .inv .2)))
 
 add-k : tie.Need-add-k Inv-loop μ-loop
 add-k c = omega (arith, few-sections (start (c .before .before .before .before) .pre .0), c .before .before .before .before .loop-test .taken)
@@ -184,7 +185,7 @@ forward-spec =
     (tie.spec
     Inv-loop
     μ-loop
-    home-requires
+    boundary-requires
     save-requires
     loop-holds
     mul-from

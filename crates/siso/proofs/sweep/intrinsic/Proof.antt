@@ -3,8 +3,8 @@
 use mathlib.Core.Path.{sym}
 use native.Mathlib.Omega.{arith}
 use lib.IntN.{+ℤ-idr}
-use Rattle.integers.specs.Linear.{ints, plain, widen}
-use Rattle.integers.specs.Parts.{parts}
+use Rattle.integers.specs.laws.Linear.{ints, plain, widen}
+use Rattle.integers.specs.laws.Parts.{parts}
 use Rattle.siso.proofs.sweep.intrinsic.Statement.{statement}
 use Rattle.siso.proofs.sweep.intrinsic.Tie as tie
 

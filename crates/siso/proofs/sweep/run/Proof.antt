@@ -9,8 +9,8 @@ use borrow.Author.Needs.{needs}
 use Rattle.lists.specs.Lists.{found}
 use Rattle.trellis.specs.Outcome.{pathless}
 use Rattle.trellis.specs.Table.{tableOf}
-use Rattle.siso.specs.Passed.{table-limits}
-use Rattle.siso.specs.Settled.{reached-is, settled-none, settled-done}
+use Rattle.siso.specs.laws.Passed.{table-limits}
+use Rattle.siso.specs.laws.Settled.{reached-is, settled-none, settled-done}
 use Rattle.siso.proofs.sweep.run.Statement.{statement}
 use Rattle.siso.proofs.sweep.run.Tie as tie
 

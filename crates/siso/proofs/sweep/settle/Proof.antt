@@ -9,10 +9,10 @@ use lib.IntN.{pos}
 use lib.ListN.{getD}
 use mir.Syntax.{w16, w32}
 use mir.Val.{SFits}
-use Rattle.integers.specs.Linear.{plain, fits-of, widen}
+use Rattle.integers.specs.laws.Linear.{plain, fits-of, widen}
 use Rattle.trellis.specs.Path.{aprioriAt}
-use Rattle.siso.specs.Between.{best-asked, best-is}
-use Rattle.siso.specs.Held.{there}
+use Rattle.siso.specs.laws.Between.{best-asked, best-is}
+use Rattle.siso.specs.laws.Held.{there}
 use Rattle.trellis.specs.Table.{tableOf}
 use Rattle.siso.specs.Lent.{valuesOf}
 use Rattle.siso.proofs.Places.{channel-place}

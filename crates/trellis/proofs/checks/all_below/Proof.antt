@@ -8,7 +8,7 @@ use lib.ListN.{length, getD}
 use borrow.Author.Count.{below-more}
 use borrow.Author.Needs.{needs}
 use borrow.Author.Tests.{le-ltb, lt-ltb}
-use Rattle.lists.specs.Every.{at-every, every-not}
+use Rattle.lists.specs.laws.Every.{at-every, every-not}
 use Rattle.trellis.proofs.checks.all_below.Statement.{statement}
 use Rattle.trellis.proofs.checks.all_below.Tie as tie
 

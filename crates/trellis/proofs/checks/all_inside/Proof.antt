@@ -11,8 +11,8 @@ use borrow.Author.Count.{below-more}
 use borrow.Author.Needs.{needs}
 use borrow.Author.Tests.{le-leb, lt-leb}
 use Rattle.integers.specs.Integers.{inside}
-use Rattle.integers.specs.Linear.{plain}
-use Rattle.lists.specs.Every.{at-every, every-not}
+use Rattle.integers.specs.laws.Linear.{plain}
+use Rattle.lists.specs.laws.Every.{at-every, every-not}
 use Rattle.trellis.proofs.checks.all_inside.Statement.{statement}
 use Rattle.trellis.proofs.checks.all_inside.Tie as tie
 

@@ -12,7 +12,7 @@ use borrow.Author.Count.{below-more}
 use borrow.Author.Needs.{needs}
 use borrow.Author.Tests.{ne-eqb}
 use Rattle.lists.specs.Lists.{every, upto}
-use Rattle.lists.specs.Every.{at-every-upto, every-upto-not}
+use Rattle.lists.specs.laws.Every.{at-every-upto, every-upto-not}
 use Rattle.trellis.specs.Table.{tableOf, systematic, word, output}
 use Rattle.trellis.proofs.checks.is_systematic.Statement.{statement}
 use Rattle.trellis.proofs.checks.is_systematic.Tie as tie

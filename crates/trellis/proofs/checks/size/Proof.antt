@@ -6,8 +6,8 @@ use lib.IntN.{ℤ, pos, _-ℤ_, natAbs}
 use lib.Signed.{_≤ℤ_, nonNeg, yes-nonNeg}
 use mir.Syntax.{w32}
 use mir.Val.{Fits, SFits}
-use Rattle.integers.specs.Linear.{ints, plain, widen}
-use Rattle.integers.specs.Parts.{parts}
+use Rattle.integers.specs.laws.Linear.{ints, plain, widen}
+use Rattle.integers.specs.laws.Parts.{parts}
 use Rattle.trellis.proofs.checks.size.Statement.{statement}
 use Rattle.trellis.proofs.checks.size.Tie as tie
 

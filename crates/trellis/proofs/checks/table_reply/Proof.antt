@@ -5,10 +5,10 @@ use mathlib.Core.Bool.{true, and-false}
 use borrow.Author.Needs.{needs}
 use borrow.Author.Tests.{not-true, not-false}
 use Rattle.refusal.specs.declared.Refusal.the-variants.{Shape, Branch}
-use Rattle.refusal.specs.Checks.{check-is-done, fails, fails-first, passes-first}
-use Rattle.lists.specs.Tests.{and-true}
+use Rattle.refusal.specs.laws.Checks.{check-is-done, fails, fails-first, passes-first}
+use Rattle.lists.specs.laws.Tests.{and-true}
 use Rattle.trellis.specs.Table.{Table, shaped, branched, tableOf}
-use Rattle.trellis.specs.Branches.{shaped-is}
+use Rattle.trellis.specs.laws.Branches.{shaped-is}
 use Rattle.trellis.proofs.checks.table_reply.Statement.{statement}
 use Rattle.trellis.proofs.checks.table_reply.Tie as tie
 

@@ -1,0 +1,13 @@
+pub mod Lent
+pub mod Leading
+pub mod Sections
+pub mod Places
+pub mod Sending
+pub mod Tails
+pub mod Walking
+pub mod WordPlaces
+pub mod Bits
+pub mod TailPaths
+pub mod Coding
+pub mod Encoded
+pub mod Examples

@@ -1,0 +1,136 @@
+// The two coders: each section's word over the message and the tail, and the frame sent.
+ghost use mathlib.Core.Path.{_≡_};
+ghost use Prim.Native.Nat.{_+_, _-_, _≤_};
+ghost use lib.ListN.{length};
+ghost use Rattle.trellis.specs.Best.{IsBits};
+ghost use Rattle.coder.specs.Coder.{tailed, encodeSettled};
+ghost use Rattle.coder.specs.laws.Coding.{Coded};
+ghost use Rattle.frame.specs.Interleaver.{interleave};
+ghost use Rattle.frame.specs.laws.Interleaving.{Permutes};
+ghost use Rattle.coder.specs.laws.Lent.{readCall, Codable};
+ghost use Rattle.coder.specs.Lent.{encodedOf};
+ghost use Rattle.coder.specs.laws.Leading.{Leads};
+ghost use Rattle.coder.specs.laws.Sections.{bitsOf};
+ghost use Rattle.coder.specs.laws.Walking.{Walked, Continued};
+use crate::interleaver::interleave_bits;
+use crate::puncture::puncture;
+use crate::tail::Tail;
+use crate::tail::tail_from;
+use crate::tail::target;
+use refusal::Refusal;
+use refusal::Reply;
+
+// Writes the words of the sections of inputs, from state 0, and returns the state in which they end.
+fn walk(next: &[u8], words: &[u8], inputs: &[u8], out: &mut [u8]) -> usize
+    requires { ⌜ Leads (now next) 0 ⌝ }
+    requires { ⌜ length (now words) ≡ length (now next) ⌝ }
+    requires { ⌜ IsBits (length (now inputs)) (now inputs) ⌝ }
+    requires { ⌜ length (now inputs) ≤ length (now out) ⌝ }
+    ensures { λ r. ⌜ Walked (now (next .entry)) (now (words .entry)) (now (inputs .entry)) r (now (out .exit)) ⌝ }
+{
+    let mut s: usize = 0;
+    let mut k: usize = 0;
+    while k < inputs.len() {
+        let x = inputs[k] as usize;
+        out[k] = words[2 * s + x];
+        s = target(next, s, x);
+        k += 1;
+    }
+    s
+}
+
+// Writes the words of a tail's sections, from state start, at the end of out.
+fn walk_tail(next: &[u8], words: &[u8], start: usize, inputs: u8, out: &mut [u8], at: usize)
+    requires { ⌜ Leads (now next) start ⌝ }
+    requires { ⌜ length (now words) ≡ length (now next) ⌝ }
+    requires { ⌜ at ≤ length (now out) ⌝ }
+    ensures { λ _. ⌜ Continued (now (next .entry)) (now (words .entry)) start (bitsOf (length (now (out .entry)) - at) inputs) at (now (out .entry)) (now (out .exit)) ⌝ }
+{
+    let mut s = start;
+    let mut rest = inputs;
+    let mut k = at;
+    while k < out.len() {
+        let x = (rest % 2) as usize;
+        out[k] = words[2 * s + x];
+        s = target(next, s, x);
+        rest = rest / 2;
+        k += 1;
+    }
+}
+
+// One coder: the words of its inputs' sections, then of its tail's. False where it has no tail.
+fn code(next: &[u8], words: &[u8], inputs: &[u8], tail: usize, out: &mut [u8]) -> bool
+    requires { ⌜ Leads (now next) 0 ⌝ }
+    requires { ⌜ length (now words) ≡ length (now next) ⌝ }
+    requires { ⌜ IsBits (length (now inputs)) (now inputs) ⌝ }
+    requires { ⌜ tail ≤ 4 ⌝ }
+    requires { ⌜ length (now out) ≡ length (now inputs) + tail ⌝ }
+    ensures { λ r. ⌜ Coded (now (next .entry)) (now (words .entry)) tail (now (inputs .entry)) r (now (out .exit)) ⌝ }
+{
+    let s = walk(next, words, inputs, out);
+    match tail_from(next, s, tail) {
+        Tail::Nothing => false,
+        Tail::Inputs(rest) => {
+            walk_tail(next, words, s, rest, out, inputs.len());
+            true
+        }
+    }
+}
+
+// The second coder: the same over the message in the pattern's order.
+fn code_interleaved(
+    next: &[u8],
+    words: &[u8],
+    pattern: &[u32],
+    message: &[u8],
+    tail: usize,
+    out: &mut [u8],
+) -> bool
+    requires { ⌜ Leads (now next) 0 ⌝ }
+    requires { ⌜ length (now words) ≡ length (now next) ⌝ }
+    requires { ⌜ Permutes (length (now message)) (now pattern) ⌝ }
+    requires { ⌜ IsBits (length (now message)) (now message) ⌝ }
+    requires { ⌜ tail ≤ 4 ⌝ }
+    requires { ⌜ length (now message) ≤ 4096 ⌝ }
+    requires { ⌜ length (now out) ≡ length (now message) + tail ⌝ }
+    ensures { λ r. ⌜ Coded (now (next .entry)) (now (words .entry)) tail (interleave 0 (now (pattern .entry)) (now (message .entry))) r (now (out .exit)) ⌝ }
+{
+    let bits = message.len();
+    let mut interleaved = blank();
+    interleave_bits(pattern, message, &mut interleaved[..bits]);
+    code(next, words, &interleaved[..bits], tail, out)
+}
+
+// Room for the bits or the words of one coder's sections.
+fn blank() -> [u8; 4096]
+    ensures { λ r. ⌜ length r ≡ 4096 ⌝ }
+{
+    [0; 4096]
+}
+
+// Codes what the checks accepted.
+pub fn run(
+    next: &[u8],
+    words: &[u8],
+    bits: usize,
+    tail: usize,
+    message: &[u8],
+    pattern: &[u32],
+    masks: &[u8],
+    sent: &mut [u8],
+) -> Reply
+    requires { ⌜ Codable (readCall (now next) (now words) bits tail (now message) (now pattern) (now masks) .frame) (now message) (now sent) ⌝ }
+    ensures { λ r. ⌜ encodedOf r (now (sent .exit)) ≡ encodeSettled (tailed (readCall (now (next .entry)) (now (words .entry)) bits tail (now (message .entry)) (now (pattern .entry)) (now (masks .entry)))) (readCall (now (next .entry)) (now (words .entry)) bits tail (now (message .entry)) (now (pattern .entry)) (now (masks .entry))) (now (sent .entry)) ⌝ }
+{
+    let end = bits + tail;
+    let mut first = blank();
+    let mut second = blank();
+    if !code(next, words, message, tail, &mut first[..end]) {
+        return Reply::Refused(Refusal::NoTail);
+    }
+    if !code_interleaved(next, words, pattern, message, tail, &mut second[..end]) {
+        return Reply::Refused(Refusal::NoTail);
+    }
+    puncture(masks, bits, tail, &first[..end], &second[..end], sent);
+    Reply::Done
+}

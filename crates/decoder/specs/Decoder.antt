@@ -1,0 +1,163 @@
+-- The frame decoder (document 01, "Frame"): its two passes, its iterations, and its whole result.
+-- Assumes nothing.
+use mathlib.Core.Bool.{Bool, not, _&&_, _||_}
+use mathlib.Core.List.{List, [], _∷_, _++_, map}
+use Prim.Native.Nat.{ℕ, zero, suc, _+_, _*_, _-_}
+use lib.Dec.{eqb, leb}
+use lib.IntN.{ℤ, pos, negsuc}
+use lib.ListN.{length, getD, take, drop, replicate}
+use Rattle.integers.specs.Integers.{limited}
+use Rattle.lists.specs.Lists.{joined, any, upto}
+use Rattle.refusal.specs.declared.Refusal.the-variants.{Shape, Branch, Length, Lists, Value, Pattern, Mask, Iterations, Coder, NoPath, ForcedPosition}
+use Rattle.refusal.specs.declared.Reply.{Reply}
+use Rattle.refusal.specs.Refusals.{check, _then_, after, cleared}
+use Rattle.trellis.specs.Table.{shaped, branched}
+use Rattle.trellis.specs.Path.{Values}
+use Rattle.trellis.specs.Limits.{aprioriLimit, channelFits}
+use Rattle.trellis.specs.Outcome.{pathless, forced, margins, extrinsics}
+use Rattle.frame.specs.Interleaver.{permutes, interleave, deinterleave}
+use Rattle.frame.specs.Frame.{Frame, sections, sizesFit, masksFit, codes, frameLength, flags, spread}
+
+-- ---- the rules of handing over and of deciding
+
+-- an extrinsic as the other pass's a-priori value: limited to -8,191..8,191
+unfoldable pub handOver : ℤ → ℤ
+handOver e = limited aprioriLimit e
+
+-- the bit of a margin: 0 or more is bit 1
+unfoldable pub decided : ℤ → ℕ
+decided (pos m) = 1
+decided (negsuc m) = 0
+
+-- ---- passes. r has a value for every place of the frame, and a the K a-priori values of the pass, in its own order
+
+abbrev valueAt : List ℤ → ℕ → ℤ
+valueAt r i = getD r i (pos 0)
+
+-- pass 1 reads systematic k and parity 1 at k, then tail 1
+unfoldable pub channel1 : Frame → List ℤ → List ℤ
+channel1 f r =
+    joined (λ k. valueAt r (3 * k) ∷ valueAt r (3 * k + 1) ∷ []) (f .bits) ++ take (2 * f .tail) (drop (3 * f .bits) r)
+
+-- pass 2 reads systematic pattern(k) and parity 2 at k, then tail 2
+unfoldable pub channel2 : Frame → List ℤ → List ℤ
+channel2 f r =
+    joined (λ k. valueAt r (3 * getD (f .pattern) k 0) ∷ valueAt r (3 * k + 2) ∷ []) (f .bits)
+    ++ take (2 * f .tail) (drop (3 * f .bits + 2 * f .tail) r)
+
+-- what a pass says of the K message positions, in its own order
+pub record Soft : Type 0 where
+  pub margins : List ℤ
+  pub extrinsics : List ℤ
+
+-- a pass is a lone pass over K + T sections; tail positions have the a-priori value 0
+unfoldable pub pass : Frame → List ℤ → List ℤ → Soft
+pass f channel a =
+    let v : Values = record { channel = channel; apriori = a ++ replicate (f .tail) (pos 0) } in
+    record {
+      margins = margins (f .table) v (sections f) (f .bits);
+      extrinsics = extrinsics (f .table) v (sections f) (f .bits);
+    }
+
+unfoldable pub pass1 : Frame → List ℤ → List ℤ → Soft
+pass1 f r a = pass f (channel1 f r) a
+
+unfoldable pub pass2 : Frame → List ℤ → List ℤ → Soft
+pass2 f r a = pass f (channel2 f r) a
+
+-- ---- iterations
+
+-- what pass 1 hands to pass 2, and pass 2 back to pass 1: each in the other's order
+unfoldable pub handOn : Frame → Soft → List ℤ
+handOn f s = interleave (pos 0) (f .pattern) (map handOver (s .extrinsics))
+
+unfoldable pub handBack : Frame → Soft → List ℤ
+handBack f s = deinterleave (pos 0) (f .pattern) (map handOver (s .extrinsics))
+
+-- an iteration is pass 1, then pass 2: what pass 2 says, from the a-priori values of pass 1
+unfoldable pub iteration : Frame → List ℤ → List ℤ → Soft
+iteration f r a = pass2 f r (handOn f (pass1 f r a))
+
+-- the a-priori values of pass 1 after i iterations; the very first pass has 0
+unfoldable pub prior : Frame → List ℤ → ℕ → List ℤ
+prior f r zero = replicate (f .bits) (pos 0)
+prior f r (suc i) = handBack f (iteration f r (prior f r i))
+
+-- what the last pass 2 of n iterations says, n at least 1
+unfoldable pub lastPass : Frame → List ℤ → ℕ → Soft
+lastPass f r n = iteration f r (prior f r (n - 1))
+
+-- ---- the whole result
+
+-- what the frame decoder reads
+pub record DecodeCall : Type 0 where
+  pub frame : Frame
+  pub received : List ℤ
+  pub iterations : ℕ
+
+-- what it writes: the result lists (bits, margins, extrinsics) and the working list
+pub record DecodeLent : Type 0 where
+  pub bits : List ℕ
+  pub margins : List ℤ
+  pub extrinsics : List ℤ
+  pub work : List ℤ
+
+-- every list has its exact length; the frame's is measured only where 9 does not apply (not so: 5)
+unfoldable pub decodeListsFit : DecodeCall → DecodeLent → Bool
+decodeListsFit c l =
+    let f = c .frame in
+    eqb (length (f .pattern)) (f .bits)
+    && (not (masksFit f) || eqb (length (c .received)) (frameLength f))
+    && eqb (length (l .bits)) (f .bits)
+    && eqb (length (l .margins)) (f .bits)
+    && eqb (length (l .extrinsics)) (f .bits)
+    && eqb (length (l .work)) ((sections f + 1) * f .table .states)
+
+-- the checks of what is lent: the lowest number but 12 and 13 that applies
+unfoldable pub decodeChecked : DecodeCall → DecodeLent → Reply
+decodeChecked c l =
+    let f = c .frame in
+    check (shaped (f .table)) Shape
+    then check (branched (f .table)) Branch
+    then check (sizesFit f) Length
+    then check (decodeListsFit c l) Lists
+    then check (channelFits (c .received)) Value
+    then check (permutes (f .bits) (f .pattern)) Pattern
+    then check (masksFit f) Mask
+    then check (leb 1 (c .iterations) && leb (c .iterations) 32) Iterations
+    then check (codes f) Coder
+
+-- there is a path (not so: 12), and no message position is forced (not so: 13). Both passes have the same paths, so one test of each kind
+-- speaks for both
+unfoldable pub decodeWalked : DecodeCall → Reply
+decodeWalked c =
+    let f = c .frame in
+    check (not (pathless (f .table) (sections f))) NoPath
+    then check (not (any (forced (f .table) (sections f)) (upto (f .bits)))) ForcedPosition
+
+-- the lowest number that applies, or done
+unfoldable pub decodeReply : DecodeCall → DecodeLent → Reply
+decodeReply c l = decodeChecked c l then decodeWalked c
+
+-- the reply, and every list as the decoder leaves it
+pub record DecodeResult : Type 0 where
+  pub reply : Reply
+  pub lists : DecodeLent
+
+-- what a reply leaves of the lists. An unsent value is received as 0. Position i of the last pass 2 is message position pattern(i)
+unfoldable pub decodeSettled : Reply → DecodeCall → DecodeLent → DecodeResult
+decodeSettled r c l =
+    let f = c .frame in
+    let s = lastPass f (spread (pos 0) (flags f) (c .received)) (c .iterations) in
+    record {
+      reply = r;
+      lists = record {
+        bits = after r (deinterleave 0 (f .pattern) (map decided (s .margins))) (l .bits);
+        margins = after r (deinterleave (pos 0) (f .pattern) (s .margins)) (l .margins);
+        extrinsics = after r (deinterleave (pos 0) (f .pattern) (s .extrinsics)) (l .extrinsics);
+        work = cleared r (l .work);
+      };
+    }
+
+unfoldable pub decode : DecodeCall → DecodeLent → DecodeResult
+decode c l = decodeSettled (decodeReply c l) c l

@@ -1,0 +1,3 @@
+pub mod Interleaver
+pub mod Frame
+pub mod laws

@@ -1,0 +1,5 @@
+pub mod Bounds
+pub mod Difference
+pub mod Linear
+pub mod Laws
+pub mod Parts

@@ -1,0 +1,48 @@
+-- What is known of a call that passes the checks: the pass is within its limits, and every list that was lent has its exact length.
+-- Assumes nothing.
+use mathlib.Core.Path.{_≡_}
+use Prim.Native.Nat.{_+_, _*_}
+use lib.ListN.{length}
+use borrow.Author.Tests.{eqb-true}
+use Rattle.lists.specs.laws.Tests.{and-both}
+use Rattle.refusal.specs.declared.Reply.the-variants.{Done}
+use Rattle.refusal.specs.declared.Refusal.the-variants.{Shape, Branch, Length, Lists, Value}
+use Rattle.refusal.specs.laws.Checks.{check-is-done, first-passed}
+use Rattle.siso.specs.Decode.{Call, Lent, listsFit, checked}
+use Rattle.siso.specs.laws.Pass.{Pass}
+
+pub record Accepted (c : Call) (l : Lent) : Type 0 where
+  pub pass : Pass (c .table) (c .sections) (c .values)
+  pub marks-long : length (l .marks) ≡ c .sections
+  pub margins-long : length (l .margins) ≡ c .sections
+  pub extrinsics-long : length (l .extrinsics) ≡ c .sections
+  pub work-long : length (l .work) ≡ (c .sections + 1) * c .table .states
+
+pub accepted : (c : Call) (l : Lent) → checked c l ≡ Done → Accepted c l
+unfolding checked listsFit
+accepted c l e =
+    let (shape, after-shape) = first-passed _ Shape _ e in
+    let (branches, after-branches) = first-passed _ Branch _ after-shape in
+    let (fits, after-fits) = first-passed _ Length _ after-branches in
+    let (lists, after-lists) = first-passed _ Lists _ after-fits in
+    let (channel-small, apriori-small) = and-both _ _ (check-is-done _ Value .0 after-lists) in
+    let (up-to-extrinsics, work) = and-both _ _ lists in
+    let (up-to-margins, extrinsics) = and-both _ _ up-to-extrinsics in
+    let (up-to-marks, margins) = and-both _ _ up-to-margins in
+    let (values, marks) = and-both _ _ up-to-marks in
+    let (channel, apriori) = and-both _ _ values in
+    record {
+      pass = record {
+        shape = shape;
+        branches = branches;
+        fits = fits;
+        channel-long = eqb-true _ _ channel;
+        apriori-long = eqb-true _ _ apriori;
+        channel-small = channel-small;
+        apriori-small = apriori-small;
+      };
+      marks-long = eqb-true _ _ marks;
+      margins-long = eqb-true _ _ margins;
+      extrinsics-long = eqb-true _ _ extrinsics;
+      work-long = eqb-true _ _ work;
+    }
