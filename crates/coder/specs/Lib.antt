@@ -1,3 +1,4 @@
 pub mod Coder
 pub mod Lent
+pub mod Tail
 pub mod laws

@@ -1,1 +1,4 @@
 pub mod Spreading
+pub mod HandOver
+pub mod Channels
+pub mod Decodable

@@ -1,2 +1,6 @@
-pub mod Margins
+pub mod Meaning
+pub mod Lone
+pub mod Decoding
 pub mod Coded
+pub mod Message
+pub mod laws

@@ -15,6 +15,11 @@ pub record IsBits (n : ℕ) (p : List ℕ) : Type 0 where
   pub size : length p ≡ n
   pub bit : (k : ℕ) → getD p k 0 < 2
 
+-- n bits that lead from state s to state 0
+pub record IsTerminating (t : Table) (s n : ℕ) (p : List ℕ) : Type 0 where
+  pub bits : IsBits n p
+  pub ends : finish t s p ≡ 0
+
 -- a path of n sections
 pub record IsPath (t : Table) (n : ℕ) (p : TrellisPath) : Type 0 where
   pub start : p .start ≡ 0

@@ -12,19 +12,14 @@ use native.Mathlib.Decide.{decLt}
 use lib.ListN.{length}
 use Rattle.trellis.specs.Table.{Table, nextState}
 use Rattle.trellis.specs.Path.{finish, terminating}
-use Rattle.trellis.specs.Best.{IsBits, IsPath}
-use Rattle.trellis.specs.laws.Listing.{IsTerminating, terminating-are}
+use Rattle.trellis.specs.Best.{IsBits, IsTerminating, IsPath}
+use Rattle.trellis.specs.laws.Listing.{terminating-are}
 use Rattle.frame.specs.Frame.{Frame, sections}
 use Rattle.coder.specs.Coder.{tailFrom, withTail}
+use Rattle.coder.specs.Tail.{Before, IsFirst}
 use Rattle.coder.specs.laws.Tails.{tail-suc}
 use Rattle.coder.specs.laws.Walking.{finish-append}
 use Rattle.coder.specs.laws.Bits.{bits-append}
-
--- dictionary order: where two lists first differ, the entry of the first is the smaller
-abbrev pub Before : List ℕ → List ℕ → Type 0
-Before [] q = ⊥
-Before (a ∷ p) [] = ⊥
-Before (a ∷ p) (b ∷ q) = (a < b) ⊎ ((a ≡ b) × Before p q)
 
 before-some : (p q : List ℕ) → length p ≡ 0 → Before p q → ⊥
 before-some [] q e b = b
@@ -48,18 +43,13 @@ before-total (a ∷ p) (b ∷ q) e = elim (decLt a b) [
   ]
 ]
 
--- p leads boundary from state s, and no list that comes before it does
-pub record IsFirst (t : Table) (s n : ℕ) (p : List ℕ) : Type 0 where
-  pub leads : IsTerminating t s n p
-  pub first : (q : List ℕ) → IsTerminating t s n q → Before q p → ⊥
-
 module _ (t : Table) where
-  -- where a list leads boundary, its rest does from where its first input leads
-  boundary-after : (s n b : ℕ) (p : List ℕ) → IsTerminating t s (suc n) (b ∷ p) → IsTerminating t (nextState t s b) n p
+  -- where a list leads back, its rest does from where its first input leads
+  terminating-after : (s n b : ℕ) (p : List ℕ) → IsTerminating t s (suc n) (b ∷ p) → IsTerminating t (nextState t s b) n p
   unfolding finish
-  boundary-after s n b p h = record { bits = record { size = suc-inj (h .bits .size); bit = λ k. h .bits .bit (suc k) }; ends = h .ends }
+  terminating-after s n b p h = record { bits = record { size = suc-inj (h .bits .size); bit = λ k. h .bits .bit (suc k) }; ends = h .ends }
 
-  -- no tail, exactly where nothing leads boundary
+  -- no tail, exactly where nothing leads back
   pub no-tail : (s n : ℕ) → (tailFrom t s n ≡ none) ↔ ((p : List ℕ) → IsTerminating t s n p → ⊥)
   unfolding tailFrom
   no-tail s n = (λ e p h. nothing .0 e p (terminating-are t n s p .1 h), λ h. nothing .1 (λ p m. h p (terminating-are t n s p .0 m)))
@@ -71,7 +61,7 @@ module _ (t : Table) where
       nothing : (head? (terminating t s n) ≡ none) ↔ ((p : List ℕ) → List·Memᴰ p (terminating t s n) → ⊥)
       nothing = empty (terminating t s n)
 
-  -- a tail leads boundary
+  -- a tail leads back
   pub tail-leads : (s n : ℕ) (p : List ℕ) → tailFrom t s n ≡ some p → IsTerminating t s n p
   unfolding tailFrom
   tail-leads s n p e = terminating-are t n s p .0 (there (terminating t s n) e)
@@ -80,7 +70,7 @@ module _ (t : Table) where
       there [] e = absurd (Option·none-ne-some p e)
       there (q ∷ ps) e = List·Memᴰ·head (sym (Option·some-injective q p e))
 
-  -- nothing that leads boundary comes before a tail
+  -- nothing that leads back comes before a tail
   abbrev Foremost : ℕ → Type 0
   Foremost n = (s : ℕ) (p q : List ℕ) → tailFrom t s n ≡ some p → IsTerminating t s n q → Before q p → ⊥
 
@@ -92,7 +82,7 @@ module _ (t : Table) where
       go (tailFrom t (nextState t s 0) n) refl (tailFrom t (nextState t s 1) n) refl (sym (tail-suc t s n) ∙ e) b
     where
       boundary-by : (x : ℕ) → a ≡ x → IsTerminating t (nextState t s x) n q
-      boundary-by x e = rw e at (boundary-after s n a q h)
+      boundary-by x e = rw e at (terminating-after s n a q h)
 
       -- both begin with x
       alike : (x : ℕ) (r : List ℕ) → tailFrom t (nextState t s x) n ≡ some r → some (x ∷ r) ≡ some (c ∷ p) → (a ≡ c) × Before q p → ⊥
@@ -108,7 +98,7 @@ module _ (t : Table) where
   foremost zero s p q e h b = before-some q p (h .bits .size) b
   foremost (suc n) s p q e h b = one-more n s p q (foremost n) e h b
 
-  -- the tail is the first in dictionary order of all that leads boundary
+  -- the tail is the first in dictionary order of all that leads back
   pub tail-exactly : (s n : ℕ) (p : List ℕ) → (tailFrom t s n ≡ some p) ↔ IsFirst t s n p
   tail-exactly s n p = (there, back)
     where

@@ -21,7 +21,7 @@ unfolding parityAt
 parity-output t xs k h = ap (λ (w : ℕ). output w 1) (words-at t 0 xs k h)
 
 module _ (t : Table) (shape : shaped t ≡ true) (branches : branched t ≡ true) (code : systematic t ≡ true) where
-  input-output : (s : ℕ) (xs : List ℕ) (k : ℕ) → s < t .states → ((i : ℕ) → getD xs i 0 < 2) → k < length xs →
+  pub input-output : (s : ℕ) (xs : List ℕ) (k : ℕ) → s < t .states → ((i : ℕ) → getD xs i 0 < 2) → k < length xs →
       output (getD (wordsAlong t s xs) k 0) 0 ≡ getD xs k 0
   unfolding wordsAlong
   input-output s [] k here bits h = absurd (omega arith)

@@ -64,3 +64,19 @@ module _ (f : ℕ → Bool) (n : ℕ) where
 
   pub every-upto-not : (i : ℕ) → f i ≡ false → i < n → every f (upto n) ≡ false
   every-upto-not i e h = every-not f 0 (upto n) i (rw (upto-at n i h) e) (omega (arith, upto-length n))
+
+  pub any-upto-at : any f (upto n) ≡ true → (i : ℕ) × (i < n) × (f i ≡ true)
+  any-upto-at e =
+      let (i, h, p) = any-at f 0 (upto n) e in
+      let l : i < n = omega (arith, upto-length n) in
+      (i, l, rw (upto-at n i l) at p)
+
+  pub at-any-upto : (i : ℕ) → i < n → f i ≡ true → any f (upto n) ≡ true
+  at-any-upto i h p = at-any f 0 (upto n) i (rw (upto-at n i h) p) (omega (arith, upto-length n))
+
+  pub none-upto-at : any f (upto n) ≡ false → (i : ℕ) → i < n → f i ≡ false
+  none-upto-at e i h = go (f i) refl
+    where
+      go : (t : Bool) → f i ≡ t → f i ≡ false
+      go true g = absurd (false≢true (sym e ∙ at-any-upto i h g))
+      go false g = g

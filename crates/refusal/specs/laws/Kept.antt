@@ -1,4 +1,5 @@
--- Replies that leave the working list as it was: refusals other than 12 and 13, and chains of checks that give no other.
+-- What replies leave: refusals other than 12 and 13, and chains of checks that give no other, leave the working list as it was; and a result list is
+-- the new one after success alone.
 -- Assumes nothing.
 use mathlib.Core.Path.{_≡_, refl}
 use mathlib.Core.Bool.{Bool, true, false, cond, not, _||_, false≢true}
@@ -9,7 +10,7 @@ use lib.ListN.{length, replicate}
 use Rattle.refusal.specs.declared.Refusal.{Refusal}
 use Rattle.refusal.specs.declared.Reply.{Reply}
 use Rattle.refusal.specs.declared.Reply.the-variants.{Done, Refused}
-use Rattle.refusal.specs.Refusals.{told, check, _then_, cleared}
+use Rattle.refusal.specs.Refusals.{told, check, _then_, after, cleared}
 
 -- a refusal other than 12 and 13
 unfoldable pub spares : Refusal → Bool
@@ -43,3 +44,18 @@ early-keeps r work e = go (eqb (told r .number) 12) (eqb (told r .number) 13) (e
     go true b e = absurd (false≢true e)
     go false true e = absurd (false≢true e)
     go false false e = refl
+
+-- ---- lists after a reply
+
+module _ {A : Type 0} where
+  pub after-done : {r : Reply} → r ≡ Done → (new old : A) → after r new old ≡ new
+  unfolding after
+  after-done e new old = rw e
+
+  pub after-refusal : {r : Reply} → (r ≡ Done → ⊥) → (new old : A) → after r new old ≡ old
+  unfolding after
+  after-refusal {r} h new old = go r h
+    where
+      go : (r : Reply) → (r ≡ Done → ⊥) → after r new old ≡ old
+      go Done h = absurd (h refl)
+      go (Refused r) h = refl

@@ -55,7 +55,7 @@ module _ {t : Table} {n : ℕ} {v : Values} (p : Pass t n v) {k : ℕ} {g : List
   passing-is same-before same-after b bit =
       over-ext (t .states) (λ s l. ap₂ plus (same-before s l) (departing-is same-after s b l bit))
 
--- ---- one section of the sweeps from boundary
+-- ---- one section of the sweeps of a terminated trellis
 
 module _ {t : Table} {n : ℕ} {v : Values} (p : Pass t n v) {k : ℕ} {g : List ℤ} {a : ℤ} (h : Gathered t v k g a) where
   pub next-forward :

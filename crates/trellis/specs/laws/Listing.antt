@@ -12,12 +12,7 @@ use lib.ListN.{getD, length}
 use Rattle.lists.specs.laws.Keep.{in-keep-equal, empty-exactly}
 use Rattle.trellis.specs.Table.{Table}
 use Rattle.trellis.specs.Path.{TrellisPath, finish, allBits, terminating, paths, class}
-use Rattle.trellis.specs.Best.{IsBits, IsPath, InClass}
-
--- n bits that lead from state s to state 0
-pub record IsTerminating (t : Table) (s n : ℕ) (p : List ℕ) : Type 0 where
-  pub bits : IsBits n p
-  pub ends : finish t s p ≡ 0
+use Rattle.trellis.specs.Best.{IsBits, IsTerminating, IsPath, InClass}
 
 -- ---- lists of bits
 

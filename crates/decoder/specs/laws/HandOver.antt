@@ -1,0 +1,41 @@
+-- The rules of handing over and of deciding, by the laws that proofs use: what is handed over keeps its sign or is 0 and stays within the
+-- a-priori limit, and a margin that has its bit's sign is decided as that bit. No proof opens either rule but here.
+-- Assumes nothing.
+use mathlib.Core.Path.{_≡_, refl}
+use Prim.Native.Nat.{ℕ, zero, suc, _<_}
+use native.Mathlib.Omega.{arith}
+use lib.IntN.{ℤ, pos, negsuc, negℤ}
+use lib.Signed.{_≤ℤ_, _<ℤ_}
+use Rattle.integers.specs.laws.Bounds.{Within}
+use Rattle.integers.specs.laws.Linear.{ints}
+use Rattle.integers.specs.laws.Laws.{limited-within}
+use Rattle.trellis.specs.Path.{signed}
+use Rattle.trellis.specs.Limits.{aprioriLimit}
+use Rattle.decoder.specs.Decoder.{handOver, decided}
+
+pub handed-keeps-sign : (b : ℕ) (e : ℤ) → pos 0 ≤ℤ signed b e → pos 0 ≤ℤ signed b (handOver e)
+unfolding handOver signed
+handed-keeps-sign zero e = simp ints (omega arith)
+handed-keeps-sign (suc b) e = simp ints (omega arith)
+
+pub handed-within : (e : ℤ) → Within aprioriLimit (handOver e)
+unfolding handOver
+handed-within e = limited-within aprioriLimit _
+
+pub decided-is : (b : ℕ) (m : ℤ) → b < 2 → pos 0 <ℤ signed b m → decided m ≡ b
+unfolding decided signed
+decided-is zero (pos m) h l = absurd (no-less m l)
+  where
+    no-less : (m : ℕ) → pos 0 <ℤ negℤ (pos m) → ⊥
+    no-less m = simp ints (omega arith)
+decided-is zero (negsuc m) h l = refl
+decided-is (suc zero) (pos zero) h l = absurd (no-more l)
+  where
+    no-more : pos 0 <ℤ pos 0 → ⊥
+    no-more = simp ints (omega arith)
+decided-is (suc zero) (pos (suc m)) h l = refl
+decided-is (suc zero) (negsuc m) h l = absurd (no-more m l)
+  where
+    no-more : (m : ℕ) → pos 0 <ℤ negsuc m → ⊥
+    no-more m = simp ints (omega arith)
+decided-is (suc (suc b)) m h l = absurd (omega arith)

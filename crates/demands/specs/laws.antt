@@ -1,0 +1,16 @@
+pub mod Outcomes
+pub mod Told
+pub mod EveryPass
+pub mod Replies
+pub mod EveryDecoding
+pub mod Determined
+pub mod Forced
+pub mod EveryFrame
+pub mod RightPass
+pub mod Outputs
+pub mod Received
+pub mod Heard
+pub mod Leaning
+pub mod Passes
+pub mod RightIterations
+pub mod RightSigned

@@ -1,0 +1,60 @@
+-- The iterations over a coded frame none of whose values has the wrong sign: what each pass is handed leans towards its coder's inputs, so the
+-- last margins tell the message, however many iterations there are.
+-- Assumes nothing.
+use mathlib.Core.Path.{_≡_, ap, _∙_}
+use mathlib.Core.Logic.{_≢_}
+use mathlib.Core.Bool.{false}
+use mathlib.Core.List.{List, map}
+use Prim.Native.Nat.{ℕ, zero, suc, _*_, _-_, _<_}
+use lib.IntN.{ℤ, pos}
+use lib.ListN.{getD}
+use Rattle.trellis.specs.Outcome.{forced}
+use Rattle.frame.specs.Interleaver.{interleave, deinterleave}
+use Rattle.frame.specs.laws.Interleaving.{Permutes, deinterleave-undoes}
+use Rattle.frame.specs.Frame.{Frame, sections}
+use Rattle.decoder.specs.Decoder.{decided, pass1, pass2, handOn, handBack, iteration, prior, lastPass}
+use Rattle.frame.specs.laws.Checked.{checked}
+use Rattle.decoder.specs.laws.Channels.{channel2-systematic}
+use Rattle.demands.specs.laws.Heard.{IsHeard, inputs-long, input-at, first-agrees, second-agrees}
+use Rattle.demands.specs.laws.Leaning.{Leans, Tells, zeros-lean, handed-leans, decided-all, interleaved-leans, deinterleaved-leans}
+use Rattle.demands.specs.laws.Passes.{extrinsics-lean, margins-tell}
+
+module _ {f : Frame} {message : List ℕ} {r : List ℤ} (heard : IsHeard f message r) where
+  -- the second coder's inputs
+  abbrev interleaved : List ℕ
+  interleaved = interleave 0 (f .pattern) message
+
+  permuted : Permutes (f .bits) (f .pattern)
+  permuted = checked f (heard .framed) .permutes
+
+  module _ {a : List ℤ} (told : Leans (f .bits) message a) where
+    handed-on : Leans (f .bits) interleaved (handOn f (pass1 f r a))
+    unfolding handOn pass1
+    handed-on =
+        interleaved-leans permuted (handed-leans (extrinsics-lean f (heard .framed) (heard .first-coder) (first-agrees heard) told))
+
+    handed-back : Leans (f .bits) message (handBack f (iteration f r a))
+    unfolding handBack iteration pass2
+    handed-back =
+        deinterleaved-leans permuted (handed-leans (extrinsics-lean f (heard .framed) (heard .second-coder) (second-agrees heard) handed-on))
+
+  prior-leans : (i : ℕ) → Leans (f .bits) message (prior f r i)
+  unfolding prior
+  prior-leans zero = zeros-lean (f .bits) message
+  prior-leans (suc i) = handed-back (prior-leans i)
+
+  module _ (free : (k : ℕ) → k < f .bits → forced (f .table) (sections f) k ≡ false) (told : (k : ℕ) → k < f .bits → getD r (3 * k) (pos 0) ≢ pos 0)
+      (n : ℕ) where
+    margins-tell-message : Tells (f .bits) interleaved (lastPass f r n .margins)
+    unfolding lastPass iteration pass2
+    margins-tell-message =
+        margins-tell f (heard .framed) (heard .second-coder) (second-agrees heard) (handed-on (prior-leans (n - 1))) free
+        (λ k h. rw (channel2-systematic f r k h) (told (getD (f .pattern) k 0) (permuted .below k h)))
+
+    interleaved-bit : (k : ℕ) → k < f .bits → getD interleaved k 0 < 2
+    interleaved-bit k h = rw (input-at (heard .second-coder) k h) at (heard .second-coder .terminated .bits .bit k)
+
+    pub bits-are-the-message : deinterleave 0 (f .pattern) (map decided (lastPass f r n .margins)) ≡ message
+    bits-are-the-message =
+        ap (λ (l : List ℕ). deinterleave 0 (f .pattern) l) (decided-all (inputs-long (heard .second-coder)) interleaved-bit margins-tell-message)
+        ∙ deinterleave-undoes 0 (f .bits) (f .pattern) permuted message (inputs-long (heard .first-coder))
