@@ -102,6 +102,10 @@ pub record DecodeLent : Type 0 where
   pub extrinsics : List ℤ
   pub work : List ℤ
 
+-- there are 1 to 32 iterations (not so: 10)
+abbrev pub goodIterations : ℕ → Bool
+goodIterations n = leb 1 n && leb n 32
+
 -- every list has its exact length; the frame's is measured only where 9 does not apply (not so: 5)
 unfoldable pub decodeListsFit : DecodeCall → DecodeLent → Bool
 decodeListsFit c l =
@@ -124,7 +128,7 @@ decodeChecked c l =
     then check (channelFits (c .received)) Value
     then check (permutes (f .bits) (f .pattern)) Pattern
     then check (masksFit f) Mask
-    then check (leb 1 (c .iterations) && leb (c .iterations) 32) Iterations
+    then check (goodIterations (c .iterations)) Iterations
     then check (codes f) Coder
 
 -- there is a path (not so: 12), and no message position is forced (not so: 13). Both passes have the same paths, so one test of each kind

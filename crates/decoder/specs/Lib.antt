@@ -1,2 +1,3 @@
 pub mod Decoder
+pub mod Lent
 pub mod laws

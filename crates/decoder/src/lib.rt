@@ -1,3 +1,5 @@
-// The frame decoder: the frame spread out, its two passes, and its iterations.
-mod interleaver;
+// The frame decoder: the frame spread out, its two passes, its iterations, and the result in message order.
+mod channel;
+mod handover;
+mod result;
 mod spread;

@@ -39,3 +39,20 @@ decided-is (suc zero) (negsuc m) h l = absurd (no-more m l)
     no-more : (m : ℕ) → pos 0 <ℤ negsuc m → ⊥
     no-more m = simp ints (omega arith)
 decided-is (suc (suc b)) m h l = absurd (omega arith)
+
+-- as the code decides
+pub decided-below : (m : ℤ) → m <ℤ pos 0 → decided m ≡ 0
+unfolding decided
+decided-below (pos m) h = absurd (no-less m h)
+  where
+    no-less : (m : ℕ) → pos m <ℤ pos 0 → ⊥
+    no-less m = simp ints (omega arith)
+decided-below (negsuc m) h = refl
+
+pub decided-from : (m : ℤ) → pos 0 ≤ℤ m → decided m ≡ 1
+unfolding decided
+decided-from (pos m) h = refl
+decided-from (negsuc m) h = absurd (no-more m h)
+  where
+    no-more : (m : ℕ) → pos 0 ≤ℤ negsuc m → ⊥
+    no-more m = simp ints (omega arith)

@@ -9,6 +9,7 @@ use lib.IntN.{ℤ, pos}
 use lib.Signed.{_≤ℤ_, _<ℤ_, ≤ℤ-refl}
 use lib.ListN.{length, getD, replicate, length-map, length-replicate, getD-replicate}
 use lib.Seq.{ext-getD}
+use Rattle.lists.specs.laws.Listed.{map-at}
 use Rattle.trellis.specs.Path.{signed}
 use Rattle.trellis.specs.laws.Signs.{signed-zero}
 use Rattle.frame.specs.Interleaver.{place, interleave, deinterleave}
@@ -31,12 +32,6 @@ zero-leans b = rw (signed-zero b) (≤ℤ-refl (pos 0))
 
 pub zeros-lean : (k : ℕ) (bits : List ℕ) → Leans k bits (replicate k (pos 0))
 zeros-lean k bits = record { long = length-replicate k (pos 0); signs = λ i h. rw (getD-replicate k i (pos 0) (pos 0) h) (zero-leans (getD bits i 0)) }
-
--- an entry of a mapped list
-map-at : {A B : Type 0} (g : A → B) (xs : List A) (i : ℕ) (a : A) (b : B) → i < length xs → getD (map g xs) i b ≡ g (getD xs i a)
-map-at g [] i a b h = absurd (omega arith)
-map-at g (x ∷ xs) zero a b h = refl
-map-at g (x ∷ xs) (suc i) a b h = map-at g xs i a b (omega arith)
 
 pub handed-leans : {k : ℕ} {bits : List ℕ} {a : List ℤ} → Leans k bits a → Leans k bits (map handOver a)
 handed-leans {k} {bits} {a} w = record {

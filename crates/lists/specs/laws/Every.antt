@@ -3,13 +3,24 @@
 use mathlib.Core.Path.{_≡_, refl, sym, ap, _∙_}
 use mathlib.Core.Logic.{⊎-elim}
 use mathlib.Core.Bool.{Bool, true, false, _||_, false≢true}
-use mathlib.Core.List.{List, [], _∷_}
+use mathlib.Core.List.{List, [], _∷_, _++_}
 use Prim.Native.Nat.{ℕ, zero, suc, _<_}
 use native.Mathlib.Omega.{arith}
-use lib.ListN.{length, getD}
+use lib.ListN.{length, getD, replicate}
 use Rattle.lists.specs.Lists.{every, any, upto}
 use Rattle.lists.specs.laws.Listed.{listed-length, listed-at}
-use Rattle.lists.specs.laws.Tests.{and-left, and-right, and-true, or-cases}
+use Rattle.lists.specs.laws.Tests.{and-left, and-right, and-both, and-true, or-cases}
+
+module _ {A : Type 0} (f : A → Bool) where
+  pub every-append : (xs ys : List A) → every f xs ≡ true → every f ys ≡ true → every f (xs ++ ys) ≡ true
+  unfolding every
+  every-append [] ys e g = g
+  every-append (x ∷ xs) ys e g = let (here, rest) = and-both (f x) (every f xs) e in and-true here (every-append xs ys rest g)
+
+  pub every-replicate : (n : ℕ) (x : A) → f x ≡ true → every f (replicate n x) ≡ true
+  unfolding every
+  every-replicate zero x e = refl
+  every-replicate (suc n) x e = and-true e (every-replicate n x e)
 
 module _ {A : Type 0} (f : A → Bool) (d : A) where
   pub every-at : (xs : List A) → every f xs ≡ true → (i : ℕ) → i < length xs → f (getD xs i d) ≡ true

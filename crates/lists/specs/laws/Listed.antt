@@ -2,13 +2,13 @@
 -- Assumes nothing.
 use mathlib.Core.Path.{_≡_, refl, sym, ap, ap₂, _∙_}
 use mathlib.Core.List.{List, [], _∷_, _++_, map}
-use Prim.Native.Nat.{ℕ, zero, suc, _+_, _*_, _<_}
+use Prim.Native.Nat.{ℕ, zero, suc, _+_, _*_, _≤_, _<_}
 use native.Mathlib.Nat.{mul-suc, mul-zero, mul-le-mul-left}
 use native.Mathlib.Numerals.{add-one}
 use native.Mathlib.Decide.{decLt}
 use native.Mathlib.Omega.{arith}
-use lib.ListN.{length, getD, length-append, List·getD-append}
-use lib.Seq.{getD-append-add}
+use lib.ListN.{length, getD, take, length-append, List·getD-append}
+use lib.Seq.{getD-append-add, getD-take, length-take-le, ext-getD}
 use Rattle.lists.specs.Lists.{listed, joined}
 
 module _ {A : Type 0} where
@@ -22,6 +22,11 @@ module _ {A : Type 0} where
   map-append : {B : Type 0} (f : A → B) (xs ys : List A) → map f (xs ++ ys) ≡ map f xs ++ map f ys
   map-append f [] ys = refl
   map-append f (x ∷ xs) ys = ap (λ l. f x ∷ l) (map-append f xs ys)
+
+  pub map-at : {B : Type 0} (f : A → B) (xs : List A) (i : ℕ) (a : A) (b : B) → i < length xs → getD (map f xs) i b ≡ f (getD xs i a)
+  map-at f [] i a b h = absurd (omega arith)
+  map-at f (x ∷ xs) zero a b h = refl
+  map-at f (x ∷ xs) (suc i) a b h = map-at f xs i a b (omega arith)
 
   -- ---- one entry an index
 
@@ -47,6 +52,12 @@ module _ {A : Type 0} where
   unfolding listed
   listed-ext f g zero h = refl
   listed-ext f g (suc n) h = ap₂ (λ l x. l ++ (x ∷ [])) (listed-ext f g n (λ i l. h i (omega arith))) (h n (omega arith))
+
+  pub take-listed : (f : ℕ → A) (n m : ℕ) (d : A) → m ≤ n → take m (listed f n) ≡ listed f m
+  take-listed f n m d h =
+      let long : length (take m (listed f n)) ≡ m = length-take-le m (listed f n) (omega (arith, listed-length f n)) in
+      ext-getD d _ _ (long ∙ sym (listed-length f m))
+      (λ i l. let k : i < m = omega (arith, long) in getD-take m (listed f n) i d k ∙ listed-at f n i d (omega arith) ∙ sym (listed-at f m i d k))
 
   pub map-listed : {B : Type 0} (g : A → B) (f : ℕ → A) (n : ℕ) → map g (listed f n) ≡ listed (λ i. g (f i)) n
   unfolding listed

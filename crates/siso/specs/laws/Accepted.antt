@@ -1,13 +1,13 @@
--- What is known of a call that passes the checks: the pass is within its limits, and every list that was lent has its exact length.
+-- What a call that passes the checks is, and no other: the pass is within its limits, and every list that was lent has its exact length.
 -- Assumes nothing.
-use mathlib.Core.Path.{_≡_}
+use mathlib.Core.Path.{_≡_, sym}
 use Prim.Native.Nat.{_+_, _*_}
 use lib.ListN.{length}
-use borrow.Author.Tests.{eqb-true}
-use Rattle.lists.specs.laws.Tests.{and-both}
+use borrow.Author.Tests.{eqb-true, eq-eqb}
+use Rattle.lists.specs.laws.Tests.{and-both, and-true}
 use Rattle.refusal.specs.declared.Reply.the-variants.{Done}
 use Rattle.refusal.specs.declared.Refusal.the-variants.{Shape, Branch, Length, Lists, Value}
-use Rattle.refusal.specs.laws.Checks.{check-is-done, first-passed}
+use Rattle.refusal.specs.laws.Checks.{check-is-done, first-passed, passes-first}
 use Rattle.siso.specs.Decode.{Call, Lent, listsFit, checked}
 use Rattle.siso.specs.laws.Pass.{Pass}
 
@@ -46,3 +46,17 @@ accepted c l e =
       extrinsics-long = eqb-true _ _ extrinsics;
       work-long = eqb-true _ _ work;
     }
+
+-- and the other way: such a call passes the checks
+pub accepts : (c : Call) (l : Lent) → Accepted c l → checked c l ≡ Done
+unfolding checked listsFit
+accepts c l a =
+    let p = a .pass in
+    let values = and-true (eq-eqb _ _ (p .channel-long)) (eq-eqb _ _ (p .apriori-long)) in
+    let results = and-true (and-true (and-true values (eq-eqb _ _ (a .marks-long))) (eq-eqb _ _ (a .margins-long))) (eq-eqb _ _ (a .extrinsics-long)) in
+    let lists = and-true results (eq-eqb _ _ (a .work-long)) in
+    sym
+    (passes-first Shape (p .shape)
+    (passes-first Branch (p .branches)
+    (passes-first Length (p .fits)
+    (passes-first Lists lists (sym (check-is-done _ Value .1 (and-true (p .channel-small) (p .apriori-small))))))))

@@ -1,4 +1,4 @@
--- `interleaver::deinterleave_soft` meets its contract. The invariant: the first i entries are in their places.
+-- `result::deinterleave_soft` meets its contract. The invariant: the first i entries are in their places.
 -- Assumes nothing.
 use mathlib.Core.Path.{_≡_, refl, _∙_}
 use Prim.Native.Nat.{_-_, _≤_, _<_}
@@ -9,8 +9,8 @@ use mir.Facts.{toZ-ofZ}
 use Rattle.integers.specs.laws.Linear.{fits-of}
 use borrow.Author.Needs.{needs}
 use Rattle.frame.specs.laws.Interleaving.{Placed, placed-none, placed-more, placed-all}
-use Rattle.decoder.proofs.interleaver.deinterleave_soft.Statement.{statement}
-use Rattle.decoder.proofs.interleaver.deinterleave_soft.Tie as tie
+use Rattle.decoder.proofs.result.deinterleave_soft.Statement.{statement}
+use Rattle.decoder.proofs.result.deinterleave_soft.Tie as tie
 
 abbrev Inv-loop : tie.InvT-loop
 Inv-loop pattern xs out₀ i₀ out i = (i ≤ length pattern) × (length out ≡ length out₀) × Placed (pos 0) pattern xs out i
