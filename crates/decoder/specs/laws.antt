@@ -6,3 +6,5 @@ pub mod Gathering
 pub mod Concluding
 pub mod Passing
 pub mod Iterating
+pub mod Handing
+pub mod Running

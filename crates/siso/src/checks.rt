@@ -1,48 +1,54 @@
 // The checks of a call, in the order of their numbers.
 ghost use mathlib.Core.Bool.{_&&_};
 ghost use mathlib.Core.Path.{_≡_};
-ghost use Prim.Native.Nat.{_≤_};
+ghost use Prim.Native.Nat.{_+_, _*_, _≤_};
+ghost use lib.Dec.{eqb};
 ghost use Rattle.trellis.specs.Limits.{channelFits, aprioriFits};
-ghost use Rattle.siso.specs.Decode.{listsFit, checked};
-ghost use Rattle.siso.specs.Lent.{callOf, lentOf};
+ghost use Rattle.siso.specs.Decode.{Lent, checked};
+ghost use Rattle.siso.specs.Lent.{callOf};
+ghost use Rattle.siso.specs.laws.Pass.{Sized};
 use refusal::Refusal;
 use refusal::Reply;
 
-// Every other list has its exact length.
+// The lists, by their lengths: each has its exact length.
 fn lists_fit(
     states: usize,
     outputs: usize,
-    next: &[u8],
-    words: &[u8],
     sections: usize,
-    channel: &[i16],
-    apriori: &[i16],
-    marks: &[u8],
-    margins: &[i32],
-    extrinsics: &[i32],
-    work: &[i32],
+    channel: usize,
+    apriori: usize,
+    marks: usize,
+    margins: usize,
+    extrinsics: usize,
+    work: usize,
 ) -> bool
     requires { ⌜ states ≤ 16 ⌝ }
     requires { ⌜ outputs ≤ 4 ⌝ }
     requires { ⌜ sections ≤ 4096 ⌝ }
-    ensures { λ r. ⌜ r ≡ listsFit (callOf states outputs (now (next .entry)) (now (words .entry)) sections (now (channel .entry)) (now (apriori .entry))) (lentOf (now (marks .entry)) (now (margins .entry)) (now (extrinsics .entry)) (now (work .entry))) ⌝ }
+    ensures { λ r. ⌜
+        r ≡ (eqb channel (outputs * sections)
+        && eqb apriori sections
+        && eqb marks sections
+        && eqb margins sections
+        && eqb extrinsics sections
+        && eqb work ((sections + 1) * states)) ⌝ }
 {
-    if channel.len() != outputs * sections {
+    if channel != outputs * sections {
         return false;
     }
-    if apriori.len() != sections {
+    if apriori != sections {
         return false;
     }
-    if marks.len() != sections {
+    if marks != sections {
         return false;
     }
-    if margins.len() != sections {
+    if margins != sections {
         return false;
     }
-    if extrinsics.len() != sections {
+    if extrinsics != sections {
         return false;
     }
-    work.len() == (sections + 1) * states
+    work == (sections + 1) * states
 }
 
 // Every value is within its limit.
@@ -55,7 +61,7 @@ fn values_fit(channel: &[i16], apriori: &[i16]) -> bool
     trellis::all_inside(apriori, 8191)
 }
 
-// The reply to a call, but for 12, from what is lent alone.
+// The reply to a call, but for 12, from what is lent alone: of the lists to be written, their lengths.
 pub fn reply(
     states: usize,
     outputs: usize,
@@ -64,12 +70,17 @@ pub fn reply(
     sections: usize,
     channel: &[i16],
     apriori: &[i16],
-    marks: &[u8],
-    margins: &[i32],
-    extrinsics: &[i32],
-    work: &[i32],
+    marks: usize,
+    margins: usize,
+    extrinsics: usize,
+    work: usize,
 ) -> Reply
-    ensures { λ r. ⌜ r ≡ checked (callOf states outputs (now (next .entry)) (now (words .entry)) sections (now (channel .entry)) (now (apriori .entry))) (lentOf (now (marks .entry)) (now (margins .entry)) (now (extrinsics .entry)) (now (work .entry))) ⌝ }
+    ensures { λ r. ⌜
+        ((l : Lent) → Sized l marks margins extrinsics work
+        → r ≡ checked
+        (callOf states outputs (now (next .entry)) (now (words .entry)) sections
+        (now (channel .entry)) (now (apriori .entry)))
+        l) ⌝ }
 {
     let table = trellis::table_reply(states, outputs, next, words);
     if let Reply::Refused(_) = table {
@@ -84,11 +95,9 @@ pub fn reply(
     let lists = lists_fit(
         states,
         outputs,
-        next,
-        words,
         sections,
-        channel,
-        apriori,
+        channel.len(),
+        apriori.len(),
         marks,
         margins,
         extrinsics,

@@ -24,7 +24,12 @@ pub fn decode(
     extrinsics: &mut [i32],
     work: &mut [i32],
 ) -> Reply
-    ensures { λ r. ⌜ resultOf r (now (marks .exit)) (now (margins .exit)) (now (extrinsics .exit)) (now (work .exit)) ≡ decoded (callOf states outputs (now (next .entry)) (now (words .entry)) sections (now (channel .entry)) (now (apriori .entry))) (lentOf (now (marks .entry)) (now (margins .entry)) (now (extrinsics .entry)) (now (work .entry))) ⌝ }
+    ensures { λ r. ⌜
+        resultOf r (now (marks .exit)) (now (margins .exit)) (now (extrinsics .exit)) (now (work .exit))
+        ≡ decoded
+        (callOf states outputs (now (next .entry)) (now (words .entry)) sections
+        (now (channel .entry)) (now (apriori .entry)))
+        (lentOf (now (marks .entry)) (now (margins .entry)) (now (extrinsics .entry)) (now (work .entry))) ⌝ }
 {
     let reply = checks::reply(
         states,
@@ -34,10 +39,10 @@ pub fn decode(
         sections,
         channel,
         apriori,
-        marks,
-        margins,
-        extrinsics,
-        work,
+        marks.len(),
+        margins.len(),
+        extrinsics.len(),
+        work.len(),
     );
     if let Reply::Refused(_) = reply {
         return reply;

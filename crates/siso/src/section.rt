@@ -11,10 +11,9 @@ ghost use Rattle.trellis.specs.Table.{output as outputOf};
 ghost use Rattle.trellis.specs.Path.{signed as signedBy, wordMetric};
 ghost use Rattle.trellis.specs.Outcome.{larger as greater};
 ghost use Rattle.trellis.specs.laws.MaxPlus.{plus as sum};
-ghost use Rattle.trellis.specs.laws.Over.{over};
 ghost use Rattle.trellis.specs.laws.Sizes.{Small};
-ghost use Rattle.trellis.specs.laws.Sweeps.{arriving, advance, departing, retreat, passing};
-ghost use Rattle.siso.specs.laws.Held.{there, row, targetOf, branchMetricOf, Branches, BranchMetrics, Held};
+ghost use Rattle.trellis.specs.laws.Sweeps.{arriving, advance, departing, retreat};
+ghost use Rattle.siso.specs.laws.Held.{there, row, targetOf, branchMetricOf, bestOf, Branches, BranchMetrics, Held};
 use crate::metric::Metric;
 use crate::metric::join;
 use crate::metric::larger;
@@ -61,7 +60,10 @@ fn with_output(g: [i32; 16], l: usize, y: i32) -> [i32; 16]
 pub fn word_metrics(channel: &[i16]) -> [i32; 16]
     requires { ⌜ length (now channel) ≤ 4 ⌝ }
     requires { ⌜ ((l : ℕ) → l < length (now channel) → Within 1023 (getD (now channel) l (pos 0))) ⌝ }
-    ensures { λ r. ⌜ ((w : ℕ) → w < 16 → getD r w (pos 0) ≡ wordMetric (λ l. getD (now (channel .entry)) l (pos 0)) w (length (now (channel .entry)))) ⌝ }
+    ensures { λ r. ⌜
+        ((w : ℕ) → w < 16
+        → getD r w (pos 0)
+        ≡ wordMetric (λ l. getD (now (channel .entry)) l (pos 0)) w (length (now (channel .entry)))) ⌝ }
 {
     let mut g = [0; 16];
     let mut l: usize = 0;
@@ -131,7 +133,11 @@ fn arrive(
     requires { ⌜ Held states m ⌝ }
     requires { ⌜ s < states ⌝ }
     requires { ⌜ b < 2 ⌝ }
-    ensures { λ r. ⌜ ((t : ℕ) → row r t ≡ greater (row out t) (arriving (targetOf (now (next .entry))) (branchMetricOf (now (words .entry)) g a) (row m) t s b)) ⌝ }
+    ensures { λ r. ⌜
+        ((t : ℕ)
+        → row r t
+        ≡ greater (row out t)
+        (arriving (targetOf (now (next .entry))) (branchMetricOf (now (words .entry)) g a) (row m) t s b)) ⌝ }
 {
     let x = m[s];
     let to = target(next, s, b);
@@ -150,7 +156,10 @@ pub fn forwards(
     requires { ⌜ Branches states (now next) (now words) ⌝ }
     requires { ⌜ BranchMetrics g a ⌝ }
     requires { ⌜ Held states m ⌝ }
-    ensures { λ r. ⌜ ((s : ℕ) → row r s ≡ advance (targetOf (now (next .entry))) (branchMetricOf (now (words .entry)) g a) states (row m) s) ⌝ }
+    ensures { λ r. ⌜
+        ((s : ℕ)
+        → row r s
+        ≡ advance (targetOf (now (next .entry))) (branchMetricOf (now (words .entry)) g a) states (row m) s) ⌝ }
 {
     let mut out = [Metric::Unreached; 16];
     let mut s: usize = 0;
@@ -179,7 +188,9 @@ fn onward(
     requires { ⌜ Held states m ⌝ }
     requires { ⌜ s < states ⌝ }
     requires { ⌜ b < 2 ⌝ }
-    ensures { λ r. ⌜ there r ≡ departing (targetOf (now (next .entry))) (branchMetricOf (now (words .entry)) g a) (row m) s b ⌝ }
+    ensures { λ r. ⌜
+        there r
+        ≡ departing (targetOf (now (next .entry))) (branchMetricOf (now (words .entry)) g a) (row m) s b ⌝ }
 {
     let to = target(next, s, b);
     let x = m[to];
@@ -198,7 +209,10 @@ pub fn backwards(
     requires { ⌜ Branches states (now next) (now words) ⌝ }
     requires { ⌜ BranchMetrics g a ⌝ }
     requires { ⌜ Held states m ⌝ }
-    ensures { λ r. ⌜ ((s : ℕ) → s < states → row r s ≡ retreat (targetOf (now (next .entry))) (branchMetricOf (now (words .entry)) g a) (row m) s) ⌝ }
+    ensures { λ r. ⌜
+        ((s : ℕ) → s < states
+        → row r s
+        ≡ retreat (targetOf (now (next .entry))) (branchMetricOf (now (words .entry)) g a) (row m) s) ⌝ }
 {
     let mut out = [Metric::Unreached; 16];
     let mut s: usize = 0;
@@ -228,7 +242,7 @@ pub fn best(
     requires { ⌜ Held states f ⌝ }
     requires { ⌜ Held states m ⌝ }
     requires { ⌜ b < 2 ⌝ }
-    ensures { λ r. ⌜ there r ≡ over states (passing (targetOf (now (next .entry))) (branchMetricOf (now (words .entry)) g a) (row f) (row m) b) ⌝ }
+    ensures { λ r. ⌜ there r ≡ bestOf states (now (next .entry)) (now (words .entry)) g a f m b ⌝ }
 {
     let mut top = Metric::Unreached;
     let mut s: usize = 0;

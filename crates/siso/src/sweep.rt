@@ -2,16 +2,17 @@
 ghost use mathlib.Core.Bool.{cond, false};
 ghost use mathlib.Core.Option.{some};
 ghost use mathlib.Core.Path.{_≡_};
-ghost use Prim.Native.Nat.{ℕ, _+_, _*_, _<_};
+ghost use Prim.Native.Nat.{_+_, _*_};
 ghost use lib.IntN.{pos, _+ℤ_};
 ghost use lib.ListN.{length, replicate};
 ghost use Rattle.integers.specs.laws.Bounds.{Within};
 ghost use Rattle.lists.specs.Lists.{found};
-ghost use Rattle.trellis.specs.Table.{tableOf, systematic as systematicTable};
-ghost use Rattle.trellis.specs.Outcome.{pathless, position, marks as marksOf, margins as marginsOf, extrinsics as extrinsicsOf};
+ghost use Rattle.trellis.specs.Table.{tableOf};
+ghost use Rattle.trellis.specs.Outcome.{pathless, outcomeOf, positionOf};
+ghost use Rattle.trellis.specs.Outcome.{marks as marksOf, margins as marginsOf, extrinsics as extrinsicsOf};
 ghost use Rattle.trellis.specs.laws.Sweeps.{boundary, forward as forwardRow};
-ghost use Rattle.siso.specs.laws.Held.{there, row};
-ghost use Rattle.siso.specs.laws.Between.{Between};
+ghost use Rattle.siso.specs.laws.Held.{there, bestOf};
+ghost use Rattle.siso.specs.laws.Between.{Settling};
 ghost use Rattle.siso.specs.Decode.{walked, settled};
 ghost use Rattle.siso.specs.Lent.{valuesOf, callOf, lentOf, resultOf};
 ghost use Rattle.siso.specs.laws.Pass.{Pass, Forward};
@@ -20,7 +21,16 @@ use refusal::Refusal;
 use refusal::Reply;
 use trellis::Position;
 
-// The forward metrics before every section and after the last, in the working list; and those after the last.
+fn reached(m: Metric) -> bool
+    ensures { λ r. ⌜ r ≡ found (there m) ⌝ }
+{
+    match m {
+        Metric::Unreached => false,
+        Metric::At(_) => true,
+    }
+}
+
+// The forward metrics before every section and after the last, in the working list; and whether a path reaches the end.
 fn forward(
     states: usize,
     outputs: usize,
@@ -30,11 +40,22 @@ fn forward(
     channel: &[i16],
     apriori: &[i16],
     work: &mut [i32],
-) -> [Metric; 16]
-    requires { ⌜ Pass (tableOf states outputs (now next) (now words)) sections (valuesOf (now channel) (now apriori)) ⌝ }
+) -> bool
+    requires { ⌜
+        Pass (tableOf states outputs (now next) (now words)) sections
+        (valuesOf (now channel) (now apriori)) ⌝ }
     requires { ⌜ length (now work) ≡ (sections + 1) * states ⌝ }
-    ensures { λ _. ⌜ Forward (tableOf states outputs (now (next .entry)) (now (words .entry))) (valuesOf (now (channel .entry)) (now (apriori .entry))) sections (now (work .exit)) ⌝ }
-    ensures { λ r. ⌜ ((s : ℕ) → s < states → row r s ≡ forwardRow (tableOf states outputs (now (next .entry)) (now (words .entry))) (valuesOf (now (channel .entry)) (now (apriori .entry))) boundary sections s) ⌝ }
+    ensures { λ _. ⌜
+        Forward
+        (tableOf states outputs (now (next .entry)) (now (words .entry)))
+        (valuesOf (now (channel .entry)) (now (apriori .entry)))
+        sections (now (work .exit)) ⌝ }
+    ensures { λ r. ⌜
+        r ≡ found
+        (forwardRow
+        (tableOf states outputs (now (next .entry)) (now (words .entry)))
+        (valuesOf (now (channel .entry)) (now (apriori .entry)))
+        boundary sections 0) ⌝ }
 {
     let mut m = crate::metric::boundary();
     crate::metric::save(m, states, work, 0);
@@ -48,7 +69,8 @@ fn forward(
         k += 1;
         crate::metric::save(m, states, work, states * k);
     }
-    m
+    let end = m[0];
+    reached(end)
 }
 
 // The intrinsic part of the margin at a section.
@@ -60,33 +82,30 @@ fn intrinsic(y: i16, a: i16, sys: bool) -> i32
     if sys { a as i32 + y as i32 } else { a as i32 }
 }
 
-// The position at section k, where g has the metrics of its words, f those before it and m those after it.
+// The position at a section with channel value y and a-priori value a, where g has the metrics of its words, f the metrics
+// before it and m those after it.
 fn settle(
-    states: usize,
-    outputs: usize,
     next: &[u8],
     words: &[u8],
-    sections: usize,
-    channel: &[i16],
-    apriori: &[i16],
+    states: usize,
     sys: bool,
-    k: usize,
+    y: i16,
+    a: i16,
     g: [i32; 16],
     f: [Metric; 16],
     m: [Metric; 16],
 ) -> Position
-    requires { ⌜ Pass (tableOf states outputs (now next) (now words)) sections (valuesOf (now channel) (now apriori)) ⌝ }
-    requires { ⌜ pathless (tableOf states outputs (now next) (now words)) sections ≡ false ⌝ }
-    requires { ⌜ sys ≡ systematicTable (tableOf states outputs (now next) (now words)) ⌝ }
-    requires { ⌜ k < sections ⌝ }
-    requires { ⌜ Between (tableOf states outputs (now next) (now words)) (valuesOf (now channel) (now apriori)) sections k g f m ⌝ }
-    ensures { λ r. ⌜ some r ≡ position (tableOf states outputs (now (next .entry)) (now (words .entry))) (valuesOf (now (channel .entry)) (now (apriori .entry))) sections k ⌝ }
+    requires { ⌜ Settling states (now next) (now words) g y a f m ⌝ }
+    ensures { λ r. ⌜
+        some r ≡ positionOf (a +ℤ cond sys y (pos 0))
+        (outcomeOf
+        (bestOf states (now (next .entry)) (now (words .entry)) g a f m 0)
+        (bestOf states (now (next .entry)) (now (words .entry)) g a f m 1)) ⌝ }
 {
-    let value = apriori[k];
-    let a = value as i32;
-    let zero = crate::section::best(next, words, states, g, a, f, m, 0);
-    let one = crate::section::best(next, words, states, g, a, f, m, 1);
-    let told = intrinsic(channel[outputs * k], value, sys);
+    let wide = a as i32;
+    let zero = crate::section::best(next, words, states, g, wide, f, m, 0);
+    let one = crate::section::best(next, words, states, g, wide, f, m, 1);
+    let told = intrinsic(y, a, sys);
     crate::position::settled(zero, one, told)
 }
 
@@ -104,16 +123,35 @@ fn backward(
     extrinsics: &mut [i32],
     work: &[i32],
 )
-    requires { ⌜ Pass (tableOf states outputs (now next) (now words)) sections (valuesOf (now channel) (now apriori)) ⌝ }
+    requires { ⌜
+        Pass (tableOf states outputs (now next) (now words)) sections
+        (valuesOf (now channel) (now apriori)) ⌝ }
     requires { ⌜ pathless (tableOf states outputs (now next) (now words)) sections ≡ false ⌝ }
     requires { ⌜ length (now work) ≡ (sections + 1) * states ⌝ }
-    requires { ⌜ Forward (tableOf states outputs (now next) (now words)) (valuesOf (now channel) (now apriori)) sections (now work) ⌝ }
+    requires { ⌜
+        Forward (tableOf states outputs (now next) (now words)) (valuesOf (now channel) (now apriori))
+        sections (now work) ⌝ }
     requires { ⌜ length (now marks) ≡ sections ⌝ }
     requires { ⌜ length (now margins) ≡ sections ⌝ }
     requires { ⌜ length (now extrinsics) ≡ sections ⌝ }
-    ensures { λ _. ⌜ now (marks .exit) ≡ marksOf (tableOf states outputs (now (next .entry)) (now (words .entry))) (valuesOf (now (channel .entry)) (now (apriori .entry))) sections sections ⌝ }
-    ensures { λ _. ⌜ now (margins .exit) ≡ marginsOf (tableOf states outputs (now (next .entry)) (now (words .entry))) (valuesOf (now (channel .entry)) (now (apriori .entry))) sections sections ⌝ }
-    ensures { λ _. ⌜ now (extrinsics .exit) ≡ extrinsicsOf (tableOf states outputs (now (next .entry)) (now (words .entry))) (valuesOf (now (channel .entry)) (now (apriori .entry))) sections sections ⌝ }
+    ensures { λ _. ⌜
+        now (marks .exit)
+        ≡ marksOf
+        (tableOf states outputs (now (next .entry)) (now (words .entry)))
+        (valuesOf (now (channel .entry)) (now (apriori .entry)))
+        sections sections ⌝ }
+    ensures { λ _. ⌜
+        now (margins .exit)
+        ≡ marginsOf
+        (tableOf states outputs (now (next .entry)) (now (words .entry)))
+        (valuesOf (now (channel .entry)) (now (apriori .entry)))
+        sections sections ⌝ }
+    ensures { λ _. ⌜
+        now (extrinsics .exit)
+        ≡ extrinsicsOf
+        (tableOf states outputs (now (next .entry)) (now (words .entry)))
+        (valuesOf (now (channel .entry)) (now (apriori .entry)))
+        sections sections ⌝ }
 {
     let sys = trellis::is_systematic(states, outputs, next, words);
     let mut m = crate::metric::boundary();
@@ -124,21 +162,9 @@ fn backward(
         let to = from + outputs;
         let g = crate::section::word_metrics(&channel[from..to]);
         let f = crate::metric::load(states, work, states * k);
-        let p = settle(
-            states,
-            outputs,
-            next,
-            words,
-            sections,
-            channel,
-            apriori,
-            sys,
-            k,
-            g,
-            f,
-            m,
-        );
-        let before = crate::section::backwards(next, words, states, g, apriori[k] as i32, m);
+        let a = apriori[k];
+        let p = settle(next, words, states, sys, channel[from], a, g, f, m);
+        let before = crate::section::backwards(next, words, states, g, a as i32, m);
         crate::position::put(k, p, marks, margins, extrinsics);
         m = before;
         left = k;
@@ -156,15 +182,6 @@ fn clear(work: &mut [i32])
     }
 }
 
-fn reached(m: Metric) -> bool
-    ensures { λ r. ⌜ r ≡ found (there m) ⌝ }
-{
-    match m {
-        Metric::Unreached => false,
-        Metric::At(_) => true,
-    }
-}
-
 // A pass over what the checks accepted.
 pub fn run(
     states: usize,
@@ -179,14 +196,24 @@ pub fn run(
     extrinsics: &mut [i32],
     work: &mut [i32],
 ) -> Reply
-    requires { ⌜ Pass (tableOf states outputs (now next) (now words)) sections (valuesOf (now channel) (now apriori)) ⌝ }
+    requires { ⌜
+        Pass (tableOf states outputs (now next) (now words)) sections
+        (valuesOf (now channel) (now apriori)) ⌝ }
     requires { ⌜ length (now work) ≡ (sections + 1) * states ⌝ }
     requires { ⌜ length (now marks) ≡ sections ⌝ }
     requires { ⌜ length (now margins) ≡ sections ⌝ }
     requires { ⌜ length (now extrinsics) ≡ sections ⌝ }
-    ensures { λ r. ⌜ resultOf r (now (marks .exit)) (now (margins .exit)) (now (extrinsics .exit)) (now (work .exit)) ≡ settled (walked (callOf states outputs (now (next .entry)) (now (words .entry)) sections (now (channel .entry)) (now (apriori .entry)))) (callOf states outputs (now (next .entry)) (now (words .entry)) sections (now (channel .entry)) (now (apriori .entry))) (lentOf (now (marks .entry)) (now (margins .entry)) (now (extrinsics .entry)) (now (work .entry))) ⌝ }
+    ensures { λ r. ⌜
+        resultOf r (now (marks .exit)) (now (margins .exit)) (now (extrinsics .exit)) (now (work .exit))
+        ≡ settled
+        (walked
+        (callOf states outputs (now (next .entry)) (now (words .entry)) sections
+        (now (channel .entry)) (now (apriori .entry))))
+        (callOf states outputs (now (next .entry)) (now (words .entry)) sections
+        (now (channel .entry)) (now (apriori .entry)))
+        (lentOf (now (marks .entry)) (now (margins .entry)) (now (extrinsics .entry)) (now (work .entry))) ⌝ }
 {
-    let last = forward(
+    let path = forward(
         states,
         outputs,
         next,
@@ -196,8 +223,7 @@ pub fn run(
         apriori,
         work,
     );
-    let end = last[0];
-    if !reached(end) {
+    if !path {
         clear(work);
         return Reply::Refused(Refusal::NoPath);
     }

@@ -90,7 +90,9 @@ pub fn all_inside(xs: &[i16], limit: u32) -> bool
 
 // The table: 2 and 3.
 pub fn table_reply(states: usize, outputs: usize, next: &[u8], words: &[u8]) -> Reply
-    ensures { λ r. ⌜ r ≡ (check (shapedTable (tableOf states outputs (now (next .entry)) (now (words .entry)))) Shape then check (branched (tableOf states outputs (now (next .entry)) (now (words .entry)))) Branch) ⌝ }
+    ensures { λ r. ⌜
+        r ≡ (check (shapedTable (tableOf states outputs (now (next .entry)) (now (words .entry)))) Shape
+        then check (branched (tableOf states outputs (now (next .entry)) (now (words .entry)))) Branch) ⌝ }
 {
     if !shaped(states, outputs, next, words) {
         return Reply::Refused(Refusal::Shape);

@@ -1,33 +1,23 @@
--- One iteration and all of them, as the code holds them: the a-priori values of pass 1 before each, and the lists of the last pass 2.
+-- One iteration by the channel values of its two passes, as the code holds it: what it relies on, and what it leaves.
 -- Assumes nothing.
-use mathlib.Core.Path.{_≡_, refl, sym, ap, ap₂, _∙_}
-use mathlib.Core.Bool.{Bool, true, false, not}
-use mathlib.Core.List.{List, [], _++_, map}
-use Prim.Native.Nat.{ℕ, zero, suc, _+_, _*_, _/_, _-_, _≤_, _<_}
-use native.Mathlib.Omega.{arith}
+use mathlib.Core.Path.{_≡_}
+use mathlib.Core.Bool.{true, not}
+use mathlib.Core.List.{List, [], _++_}
+use Prim.Native.Nat.{ℕ, zero, suc, _+_, _*_, _/_}
 use lib.IntN.{ℤ, pos}
-use lib.ListN.{length, getD, take, drop, replicate, length-append, length-map, length-replicate}
-use lib.Seq.{length-take-le, take-at, drop-at}
-use Rattle.integers.specs.Integers.{inside}
-use Rattle.integers.specs.laws.Laws.{inside-is}
-use Rattle.lists.specs.laws.Every.{every-append, every-replicate, at-every}
-use Rattle.lists.specs.laws.Listed.{map-at, take-listed, listed-length}
+use lib.ListN.{length, replicate}
 use Rattle.refusal.specs.declared.Refusal.the-variants.{NoPath}
 use Rattle.refusal.specs.declared.Reply.{Reply}
 use Rattle.refusal.specs.declared.Reply.the-variants.{Done}
 use Rattle.refusal.specs.Refusals.{check}
-use Rattle.trellis.specs.Table.{Table, shaped, branched}
-use Rattle.trellis.specs.Path.{Values}
-use Rattle.trellis.specs.Limits.{aprioriLimit, sectionsFit, channelFits, aprioriFits}
+use Rattle.trellis.specs.Table.{shaped, branched}
+use Rattle.trellis.specs.Limits.{sectionsFit, channelFits, aprioriFits}
 use Rattle.trellis.specs.Outcome.{pathless}
-use Rattle.trellis.specs.Outcome.{margins as marginsOf, extrinsics as extrinsicsOf}
 use Rattle.siso.specs.Lent.{valuesOf}
-use Rattle.frame.specs.Frame.{Frame, frameOf, sections}
-use Rattle.frame.specs.Interleaver.{place, interleave, deinterleave}
-use Rattle.frame.specs.laws.Interleaving.{Permutes, interleave-at, interleave-length, deinterleave-at, deinterleave-length}
-use Rattle.decoder.specs.Decoder.{Soft, handOver, pass, handOn, handBack}
-use Rattle.decoder.specs.laws.HandOver.{handed-within}
-use Rattle.decoder.specs.laws.Passing.{tableBy, Passing, Said, Passed}
+use Rattle.frame.specs.Frame.{Frame, frameOf}
+use Rattle.frame.specs.laws.Interleaving.{Permutes}
+use Rattle.decoder.specs.Decoder.{Soft, pass, handOn, handBack}
+use Rattle.decoder.specs.laws.Passing.{tableBy, Said}
 
 -- the frame by the lists alone; its masks are spent once it is spread out
 abbrev pub frameBy : List ℕ → List ℕ → ℕ → List ℕ → Frame
@@ -48,10 +38,6 @@ module _ (f : Frame) (first second : List ℤ) where
   unfoldable pub priorBy : ℕ → List ℤ
   priorBy zero = replicate (f .bits) (pos 0)
   priorBy (suc i) = handBack f (secondSays (priorBy i))
-
--- with those of the tail, which are 0
-abbrev pub tailed : Frame → List ℤ → List ℤ
-tailed f a = a ++ replicate (f .tail) (pos 0)
 
 -- ---- what an iteration relies on, and what it leaves
 
@@ -85,27 +71,3 @@ pub record Iterated (next words : List ℕ) (t : ℕ) (pattern : List ℕ) (firs
       (length pattern + t) marks margins extrinsics
   pub handed : r ≡ Done → apriori ≡ handBack (frameBy next words t pattern) (secondSays (frameBy next words t pattern) first second a) ++ replicate t (pos 0)
   pub clear : work ≡ replicate ((length pattern + t + 1) * (length next / 2)) (pos 0)
-
--- ---- limits
-
--- what is handed over is within its limits
-handed-inside : (xs : List ℤ) (i : ℕ) → i < length xs → inside aprioriLimit (getD (map handOver xs) i (pos 0)) ≡ true
-handed-inside xs i h = rw (map-at handOver xs i (pos 0) (pos 0) h) (inside-is aprioriLimit _ .1 (handed-within (getD xs i (pos 0))))
-
-module _ (p : List ℕ) (w : Permutes (length p) p) (xs : List ℤ) (long : length xs ≡ length p) where
-  pub on-fits : aprioriFits (interleave (pos 0) p (map handOver xs)) ≡ true
-  unfolding aprioriFits
-  on-fits =
-      at-every (inside aprioriLimit) (pos 0) _
-      (λ i h.
-          let l : i < length p = omega (arith, interleave-length (pos 0) (length p) p w (map handOver xs)) in
-          rw (interleave-at (pos 0) (length p) p w (map handOver xs) i l) (handed-inside xs (getD p i 0) (omega (arith, w .below i l, long))))
-
-  pub back-fits : aprioriFits (deinterleave (pos 0) p (map handOver xs)) ≡ true
-  unfolding aprioriFits
-  back-fits =
-      at-every (inside aprioriLimit) (pos 0) _
-      (λ x h.
-          let l : x < length p = omega (arith, deinterleave-length (pos 0) (length p) p w (map handOver xs)) in
-          let at = deinterleave-at (pos 0) (length p) p w (map handOver xs) (place x p) (w .place-below x l) in
-          rw (rw (w .at-place x l) at at) (handed-inside xs (place x p) (omega (arith, w .place-below x l, long))))

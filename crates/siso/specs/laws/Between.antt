@@ -1,17 +1,20 @@
 -- What the sweeps have at one section: the metrics of its words, and the rows of metrics on both sides of it. They are as small as the code asks,
--- and they give the row before the section and the best metric with each bit.
+-- and they give the row before the section, the best metric with each bit, and what a position is settled from.
 -- Assumes nothing.
 use mathlib.Core.Path.{_≡_}
 use mathlib.Core.List.{List}
+use mathlib.Core.Option.{none}
 use Prim.Native.Nat.{ℕ, suc, _-_, _<_}
 use native.Mathlib.Omega.{arith}
 use lib.IntN.{ℤ}
+use Rattle.integers.specs.laws.Bounds.{Within}
 use Rattle.trellis.specs.Table.{Table}
 use Rattle.trellis.specs.Path.{Values, aprioriAt}
-use Rattle.trellis.specs.laws.Over.{over}
-use Rattle.trellis.specs.laws.Sweeps.{boundary, forward, backward, meet, retreat, passing}
+use Rattle.trellis.specs.Outcome.{outcomeOf}
+use Rattle.trellis.specs.laws.Sizes.{Small}
+use Rattle.trellis.specs.laws.Sweeps.{boundary, forward, backward, meet, retreat}
 use Rattle.siso.specs.declared.metric.Metric.{Metric}
-use Rattle.siso.specs.laws.Held.{row, targetOf, branchMetricOf, Branches, BranchMetrics, Held}
+use Rattle.siso.specs.laws.Held.{row, targetOf, branchMetricOf, bestOf, Branches, BranchMetrics, Held}
 use Rattle.siso.specs.laws.Pass.{Pass}
 use Rattle.siso.specs.laws.Passed.{table-branches}
 use Rattle.siso.specs.laws.Gathered.{Gathered, gathered-branch-metrics}
@@ -22,6 +25,16 @@ pub record Between (t : Table) (v : Values) (n k : ℕ) (g : List ℤ) (f m : Li
   pub values : Gathered t v k g (aprioriAt v k)
   pub before : Agree (t .states) (row f) (forward t v boundary k)
   pub after : Agree (t .states) (row m) (backward t v boundary (suc k) (n - suc k))
+
+-- what a position is settled from: a section with channel value y and a-priori value a, whose best metrics are small and not both missing
+pub record Settling (states : ℕ) (next words : List ℕ) (g : List ℤ) (y a : ℤ) (f m : List Metric) : Type 0 where
+  pub branches : Branches states next words
+  pub branch-metrics : BranchMetrics g a
+  pub before : Held states f
+  pub after : Held states m
+  pub channel : Within 1023 y
+  pub small : (b : ℕ) → b < 2 → Small 100000000 (bestOf states next words g a f m b)
+  pub path : outcomeOf (bestOf states next words g a f m 0) (bestOf states next words g a f m 1) ≡ none → ⊥
 
 module _
     {t : Table} {n : ℕ} {v : Values} (p : Pass t n v) {k : ℕ} (here : k < n) {g : List ℤ} {f m : List Metric} (w : Between t v n k g f m) where
@@ -38,5 +51,5 @@ module _
   back-is = next-backward p (w .values) here (w .after)
 
   pub best-is :
-      (b : ℕ) → b < 2 → over (t .states) (passing (targetOf (t .next)) (branchMetricOf (t .words) g (aprioriAt v k)) (row f) (row m) b) ≡ meet t v boundary boundary n k b
+      (b : ℕ) → b < 2 → bestOf (t .states) (t .next) (t .words) g (aprioriAt v k) f m b ≡ meet t v boundary boundary n k b
   best-is = next-meet p (w .values) here (w .before) (w .after)

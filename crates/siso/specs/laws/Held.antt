@@ -12,8 +12,9 @@ use mir.Syntax.{w32}
 use mir.Val.{ofZ}
 use Rattle.integers.specs.laws.Bounds.{Within}
 use Rattle.trellis.specs.Path.{signed}
+use Rattle.trellis.specs.laws.Over.{over}
 use Rattle.trellis.specs.laws.Sizes.{Small}
-use Rattle.trellis.specs.laws.Sweeps.{Row}
+use Rattle.trellis.specs.laws.Sweeps.{Row, passing}
 use Rattle.siso.specs.declared.metric.Metric.{Metric}
 use Rattle.siso.specs.declared.metric.Metric.the-variants.{Unreached, At}
 
@@ -54,6 +55,10 @@ targetOf next s b = getD next (2 * s + b) 0
 
 abbrev pub branchMetricOf : List ℕ → List ℤ → ℤ → ℕ → ℕ → ℤ
 branchMetricOf words g a s b = signed b a +ℤ getD g (getD words (2 * s + b) 0) (pos 0)
+
+-- the best metric with bit b, where f has the metrics before the section and m those after it
+abbrev pub bestOf : ℕ → List ℕ → List ℕ → List ℤ → ℤ → List Metric → List Metric → ℕ → Option ℤ
+bestOf states next words g a f m b = over states (passing (targetOf next) (branchMetricOf words g a) (row f) (row m) b)
 
 -- the two lists of a table with at most sixteen states and four outputs
 pub record Branches (states : ℕ) (next words : List ℕ) : Type 0 where

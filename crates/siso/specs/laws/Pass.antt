@@ -10,6 +10,7 @@ use Rattle.trellis.specs.Table.{Table, shaped, branched}
 use Rattle.trellis.specs.Path.{Values}
 use Rattle.trellis.specs.Limits.{sectionsFit, channelFits, aprioriFits}
 use Rattle.trellis.specs.laws.Sweeps.{boundary, forward}
+use Rattle.siso.specs.Decode.{Lent}
 use Rattle.siso.specs.laws.Held.{there, metricOf}
 
 -- the pass: a table, its sections and its values, all within their limits, with lists of their exact lengths
@@ -21,6 +22,13 @@ pub record Pass (t : Table) (n : ℕ) (v : Values) : Type 0 where
   pub apriori-long : length (v .apriori) ≡ n
   pub channel-small : channelFits (v .channel) ≡ true
   pub apriori-small : aprioriFits (v .apriori) ≡ true
+
+-- the lists to be written have these lengths
+pub record Sized (l : Lent) (marks margins extrinsics work : ℕ) : Type 0 where
+  pub marks-sized : length (l .marks) ≡ marks
+  pub margins-sized : length (l .margins) ≡ margins
+  pub extrinsics-sized : length (l .extrinsics) ≡ extrinsics
+  pub work-sized : length (l .work) ≡ work
 
 -- the working list holds the forward rows before the sections up to section k
 pub record Forward (t : Table) (v : Values) (k : ℕ) (work : List ℤ) : Type 0 where

@@ -1,21 +1,17 @@
 -- What a pass within its limits tells: the limits as orders, branches that lead to states and bear short words, values within their bounds, and
 -- metrics that never exceed 50,311,168.
 -- Assumes nothing.
-use mathlib.Core.Bool.{Bool, true, false, cond}
-use Prim.Native.Nat.{ℕ, _+_, _-_, _^_, _≤_, _<_}
+use Prim.Native.Nat.{ℕ, _-_, _^_, _≤_, _<_}
 use native.Mathlib.Omega.{arith}
 use lib.Dec.{leb, ltb}
-use lib.IntN.{pos}
 use lib.ListN.{getD}
 use lib.Pow.{pow-mono}
 use borrow.Author.Tests.{leb-true, ltb-true}
 use Rattle.integers.specs.laws.Bounds.{Within}
-use Rattle.integers.specs.laws.Laws.{within-zero, within-sum}
 use Rattle.lists.specs.laws.Tests.{and-both, and-right}
 use Rattle.lists.specs.laws.Every.{every-at}
-use Rattle.trellis.specs.Table.{Table, systematic, branched}
-use Rattle.trellis.specs.Path.{Values, channelAt, branchMetric}
-use Rattle.trellis.specs.Outcome.{systematicAt, intrinsic}
+use Rattle.trellis.specs.Table.{Table, branched}
+use Rattle.trellis.specs.Path.{Values, branchMetric}
 use Rattle.trellis.specs.Limits.{channelLimit, aprioriLimit, sectionLimit, sectionsFit}
 use Rattle.trellis.specs.laws.Branches.{Shaped, shaped-is}
 use Rattle.trellis.specs.laws.Sweeps.{Closed, closed, boundary, forward, backward, meet}
@@ -56,15 +52,6 @@ module _ {t : Table} {n : ℕ} {v : Values} (p : Pass t n v) where
 
   pub values-bounded : Bounded t v aprioriLimit channelLimit
   values-bounded = limits-bound t v (p .channel-small) (p .apriori-small)
-
-  -- the intrinsic part of a margin is one value of each kind at most
-  pub intrinsic-within : (k : ℕ) → Within (aprioriLimit + channelLimit) (intrinsic t v k)
-  unfolding intrinsic systematicAt
-  intrinsic-within k = within-sum (values-bounded .apriori k) (go (systematic t))
-    where
-      go : (c : Bool) → Within channelLimit (cond c (channelAt t v k 0) (pos 0))
-      go true = values-bounded .channel k 0
-      go false = within-zero channelLimit
 
   -- ---- the metrics
 

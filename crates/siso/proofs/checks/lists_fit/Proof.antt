@@ -1,4 +1,4 @@
--- `siso::checks::lists_fit` is the definition's test. Each early return fails one part of it; at the end every part but the last has passed.
+-- `siso::checks::lists_fit` is the definition's test over lengths. Each early return fails one part of it; at the end every part but the last has passed.
 -- The two products fit because their factors are limited.
 -- Assumes nothing.
 use mathlib.Core.Bool.{and-false}
@@ -6,7 +6,6 @@ use native.Mathlib.Nat.{mul-le-mul}
 use native.Mathlib.Omega.{arith}
 use borrow.Author.Needs.{needs}
 use borrow.Author.Tests.{eq-eqb, ne-eqb}
-use Rattle.siso.specs.Decode.{listsFit}
 use Rattle.siso.proofs.checks.lists_fit.Statement.{statement}
 use Rattle.siso.proofs.checks.lists_fit.Tie as tie
 
@@ -14,23 +13,18 @@ mul-if1 : tie.Need-mul-if1
 mul-if1 c = omega (arith, mul-le-mul (c .pre .1 .0) (c .pre .1 .1))
 
 returns : tie.Need-returns
-unfolding listsFit
 returns c = simp (ne-eqb _ _ (c .if1 .taken))
 
 returns-2 : tie.Need-returns-2
-unfolding listsFit
 returns-2 c = simp (ne-eqb _ _ (c .if2 .taken), and-false)
 
 returns-3 : tie.Need-returns-3
-unfolding listsFit
 returns-3 c = simp (ne-eqb _ _ (c .if3 .taken), and-false)
 
 returns-4 : tie.Need-returns-4
-unfolding listsFit
 returns-4 c = simp (ne-eqb _ _ (c .if4 .taken), and-false)
 
 returns-5 : tie.Need-returns-5
-unfolding listsFit
 returns-5 c = simp (ne-eqb _ _ (c .if5 .taken), and-false)
 
 add-result : tie.Need-add-result
@@ -40,7 +34,6 @@ mul-result : tie.Need-mul-result
 mul-result c = let pre = c .before .before .before .before .before .pre in omega (arith, mul-le-mul (pre .1 .1) (pre .0))
 
 returns-6 : tie.Need-returns-6
-unfolding listsFit
 returns-6 c =
     let at = c .before in
     rw (

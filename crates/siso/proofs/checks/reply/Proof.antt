@@ -14,25 +14,24 @@ use Rattle.trellis.specs.Table.{shaped, branched}
 use Rattle.trellis.specs.laws.Branches.{shaped-is}
 use Rattle.trellis.specs.Limits.{sectionsFit, channelFits, aprioriFits}
 use Rattle.siso.specs.Decode.{Call, Lent, listsFit, checked}
-use Rattle.siso.specs.Lent.{callOf, lentOf}
+use Rattle.siso.specs.Lent.{callOf}
 use Rattle.siso.proofs.checks.reply.Statement.{statement}
 use Rattle.siso.proofs.checks.reply.Tie as tie
 
 -- ---- the checks of the table, and those after them
 
-module _ (c : Call) (l : Lent) where
-  on-table : Reply
-  on-table = check (shaped (c .table)) Shape then check (branched (c .table)) Branch
+on-table : Call → Reply
+on-table c = check (shaped (c .table)) Shape then check (branched (c .table)) Branch
 
-  after-table : Reply
-  after-table =
-      check (sectionsFit (c .sections)) Length
-      then check (listsFit c l) Lists
-      then check (channelFits (c .values .channel) && aprioriFits (c .values .apriori)) Value
+after-table : Call → Lent → Reply
+after-table c l =
+    check (sectionsFit (c .sections)) Length
+    then check (listsFit c l) Lists
+    then check (channelFits (c .values .channel) && aprioriFits (c .values .apriori)) Value
 
-  in-turn : checked c l ≡ (on-table then after-table)
-  unfolding checked on-table after-table
-  in-turn = sym (then-assoc _ _ _)
+in-turn : (c : Call) (l : Lent) → checked c l ≡ (on-table c then after-table c l)
+unfolding checked on-table after-table
+in-turn c l = sym (then-assoc _ _ _)
 
 abbrev call : tie.Start → Call
 call c =
@@ -45,25 +44,22 @@ call c =
     (c .args .channel .now)
     (c .args .apriori .now)
 
-abbrev lent : tie.Start → Lent
-lent c = lentOf (c .args .marks .now) (c .args .margins .now) (c .args .extrinsics .now) (c .args .work .now)
-
 -- ---- what is known after each check
 
 abbrev start : tie.After-table-reply → tie.Start
-start c = c .before .before .before .before
+start c = c .before .before .before
 
 -- those of the table are done
 module _ (c : tie.After-enum-told2) where
   abbrev entry : tie.Start
   entry = start (c .before .before)
 
-  table-done : on-table (call entry) (lent entry) ≡ Done
+  table-done : on-table (call entry) ≡ Done
   unfolding on-table
   table-done = sym (c .before .before .table-reply .ensures) ∙ c .enum-told2 .given .1
 
-  past-table : {x : Reply} → x ≡ after-table (call entry) (lent entry) → x ≡ checked (call entry) (lent entry)
-  past-table e = e ∙ sym (in-turn (call entry) (lent entry) ∙ done-then table-done)
+  past-table : (l : Lent) {x : Reply} → x ≡ after-table (call entry) l → x ≡ checked (call entry) l
+  past-table l e = e ∙ sym (in-turn (call entry) l ∙ done-then table-done)
 
 sections-fit : (c : tie.Else2) → sectionsFit (entry (c .before .before) .args .sections) ≡ true
 unfolding sectionsFit
@@ -79,21 +75,21 @@ enum-told c = search needs
 
 returns : tie.Need-returns
 unfolding on-table
-returns c =
+returns c l sized =
     let entry = start (c .before .before) in
     let told = c .enum-told .given .1 in
-    told ∙ sym (in-turn (call entry) (lent entry) ∙ refused-then _ (sym (c .before .before .table-reply .ensures) ∙ told))
+    told ∙ sym (in-turn (call entry) l ∙ refused-then _ (sym (c .before .before .table-reply .ensures) ∙ told))
 
 enum-told-2 : tie.Need-enum-told-2
 enum-told-2 c = search needs
 
 returns-2 : tie.Need-returns-2
 unfolding after-table sectionsFit
-returns-2 c = past-table (c .before) (fails-first _ (rw (lt-leb 1 _ (c .if1 .taken))))
+returns-2 c l sized = past-table (c .before) l (fails-first _ (rw (lt-leb 1 _ (c .if1 .taken))))
 
 returns-3 : tie.Need-returns-3
 unfolding after-table sectionsFit
-returns-3 c = past-table (c .before .before) (fails-first _ (rw (lt-leb _ 4096 (c .if2 .taken), and-false)))
+returns-3 c l sized = past-table (c .before .before) l (fails-first _ (rw (lt-leb _ 4096 (c .if2 .taken), and-false)))
 
 lists-fit-requires : tie.Need-lists-fit-requires
 unfolding on-table
@@ -114,18 +110,22 @@ first-of-requires : tie.Need-first-of-requires
 first-of-requires c κs = search needs
 
 returns-4 : tie.Need-returns-4
-unfolding after-table
-returns-4 c =
+unfolding after-table listsFit
+returns-4 c l sized =
     let measured = c .before .before .before in
-    let sized = measured .before .before in
-    past-table (sized .before .before)
-    (passes-first Length (sections-fit sized)
+    let short = measured .before .before in
+    past-table (short .before .before) l
+    (passes-first Length (sections-fit short)
     (rw (
       c .first-of .ensures,
       c .before .check2 .ensures,
       c .before .before .values-fit .ensures,
       measured .check .ensures,
       measured .before .lists-fit .ensures,
+      sized .marks-sized,
+      sized .margins-sized,
+      sized .extrinsics-sized,
+      sized .work-sized,
     )))
 
 pub reply-spec : {M : Type 1} → statement M

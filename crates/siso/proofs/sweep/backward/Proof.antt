@@ -5,9 +5,10 @@ use borrow.Author.Needs.{needs}
 use native.Mathlib.Nat.{add-sub-cancel-left}
 use native.Mathlib.Omega.{arith}
 use mathlib.Core.Path.{_≡_, refl, _∙_}
-use Prim.Native.Nat.{ℕ, suc, _-_, _≤_, _<_}
+use Prim.Native.Nat.{ℕ, suc, _*_, _-_, _≤_, _<_}
 use lib.IntN.{pos}
 use lib.ListN.{getD}
+use mir.Facts.{toZ-ofZ}
 use mir.Syntax.{w16}
 use mir.Val.{SFits}
 use Rattle.integers.specs.laws.Linear.{plain, fits-of, widen}
@@ -22,6 +23,7 @@ use Rattle.siso.specs.laws.Pass.{Pass}
 use Rattle.siso.specs.laws.Passed.{table-limits, few-sections}
 use Rattle.siso.specs.laws.Steps.{Agree}
 use Rattle.siso.proofs.Places.{channel-place, work-place}
+use Rattle.siso.proofs.Settled.{settling, settled-is}
 use Rattle.siso.proofs.Written.{Written, written-none, written-more, written-all}
 use Rattle.siso.proofs.sweep.backward.Statement.{statement}
 use Rattle.siso.proofs.sweep.backward.Tie as tie
@@ -123,46 +125,60 @@ between c =
       after = rw next (at .loop .inv .1);
     }
 
-settle-requires : tie.Need-settle-requires Inv-loop μ-loop
-settle-requires c κs =
-    let in-loop = c .before .before .before in
-    let at = in-loop .before in
-    (pass at, (start at .pre .1 .0, (at .before .before .is-systematic .ensures, (here in-loop, between c))))
+mul-a : tie.Need-mul-a Inv-loop μ-loop
+mul-a c = let in-loop = c .before .before .before in omega (arith, here in-loop, few-sections (pass (in-loop .before)))
 
-mul-backwards : tie.Need-mul-backwards Inv-loop μ-loop
-mul-backwards c = let in-loop = c .before .before .before .before in omega (arith, here in-loop, few-sections (pass (in-loop .before)))
-
-shared-slice-copy-out-backwards : tie.Need-shared-slice-copy-out-backwards Inv-loop μ-loop
-shared-slice-copy-out-backwards c =
-    let in-loop = c .before .before .before .before in omega (arith, here in-loop, pass (in-loop .before) .apriori-long)
+shared-slice-copy-out-a : tie.Need-shared-slice-copy-out-a Inv-loop μ-loop
+shared-slice-copy-out-a c = let in-loop = c .before .before .before in omega (arith, here in-loop, pass (in-loop .before) .apriori-long)
 
 -- the a-priori value that is read
-value-fits :
-    (c : tie.After-backwards-arg Inv-loop μ-loop)
-    → let at = c .before .before .before .before .before .before in SFits w16 (getD (start at .args .apriori .now) (section at) (pos 0))
-value-fits c = fits-of (c .backwards-arg .given)
+apriori-fits :
+    (c : tie.After-a Inv-loop μ-loop)
+    → let at = c .before .before .before .before .before in SFits w16 (getD (start at .args .apriori .now) (section at) (pos 0))
+apriori-fits c = fits-of (c .a .given)
+
+mul-settle : tie.Need-mul-settle Inv-loop μ-loop
+mul-settle c = let in-loop = c .before .before .before .before in omega (arith, channel-place (pass (in-loop .before)) (here in-loop))
+
+shared-slice-copy-out-settle : tie.Need-shared-slice-copy-out-settle Inv-loop μ-loop
+shared-slice-copy-out-settle c = let in-loop = c .before .before .before .before in omega (arith, channel-place (pass (in-loop .before)) (here in-loop))
+
+-- the channel value that is read
+channel-fits :
+    (c : tie.After-settle-arg Inv-loop μ-loop)
+    → let at = c .before .before .before .before .before .before in
+    SFits w16 (getD (start at .args .channel .now) (start at .args .outputs * section at) (pos 0))
+channel-fits c = fits-of (c .settle-arg .given)
+
+settle-requires : tie.Need-settle-requires Inv-loop μ-loop
+unfolding aprioriAt
+settle-requires c κs =
+    let load = c .before .before in
+    let in-loop = load .before .before .before in
+    let at = in-loop .before in
+    settling (pass at) (here in-loop) (between load) (toZ-ofZ (channel-fits c)) (toZ-ofZ (apriori-fits (c .before))) (start at .pre .1 .0)
 
 cast-backwards : tie.Need-cast-backwards Inv-loop μ-loop
-cast-backwards c = let fits = value-fits c in simp plain (widen fits)
+cast-backwards c = let fits = apriori-fits (c .before .before) in simp plain (widen fits)
 
 backwards-requires : tie.Need-backwards-requires Inv-loop μ-loop
 unfolding aprioriAt
 backwards-requires c κs =
-    let fits = value-fits c in
-    let load = c .before .before in
+    let fits = apriori-fits (c .before .before) in
+    let load = c .before .before .before in
     let in-loop = load .before .before .before in
     simp plain (back-asked (pass (in-loop .before)) (here in-loop) (between load))
 
 put-requires : tie.Need-put-requires Inv-loop μ-loop
 put-requires c κs =
-    let in-loop = c .before .before .before .before .before .before .before .before .before in
+    let in-loop = c .before .before .before .before .before .before .before .before .before .before in
     let inside = here in-loop in
     let written = in-loop .before .loop .inv .2 in
     omega arith
 
 loop-less : tie.Need-loop-less Inv-loop μ-loop
 loop-less c =
-    let in-loop = c .before .before .before .before .before .before .before .before .before .before .before .before .before .before in
+    let in-loop = c .before .before .before .before .before .before .before .before .before .before .before .before .before .before .before in
     omega (arith, in-loop .loop-test .taken)
 
 loop-again : tie.Need-loop-again Inv-loop μ-loop
@@ -170,16 +186,18 @@ unfolding aprioriAt
 loop-again c =
     let put = c .before .before .before .before in
     let back = put .before .before .before .before in
-    let fits = value-fits (back .before) in
-    let settle = back .before .before in
-    let load = settle .before in
+    let settle = back .before in
+    let y-is = toZ-ofZ (channel-fits (settle .before)) in
+    let fits = apriori-fits (settle .before .before) in
+    let load = settle .before .before .before in
     let in-loop = load .before .before .before in
     let at = in-loop .before in
     let inside = here in-loop in
+    let settled = settle .settle .ensures ∙ settled-is (pass at) inside (between load) y-is (toZ-ofZ fits) (at .before .before .is-systematic .ensures) in
     let (marks-set, (margins-set, extrinsics-set)) = put .put .ensures in (
       omega arith,
       λ s l. (simp plain at (back .backwards .ensures s l)) ∙ back-is (pass at) inside (between load) s l,
-      written-more (in-loop .loop-test .taken) (at .loop .inv .0) (at .loop .inv .2) (settle .settle .ensures) marks-set margins-set extrinsics-set,
+      written-more (in-loop .loop-test .taken) (at .loop .inv .0) (at .loop .inv .2) settled marks-set margins-set extrinsics-set,
     )
 
 -- ---- after the loop
@@ -215,9 +233,11 @@ backward-spec =
     word-metrics-requires
     mul-load
     load-requires
+    mul-a
+    shared-slice-copy-out-a
+    mul-settle
+    shared-slice-copy-out-settle
     settle-requires
-    mul-backwards
-    shared-slice-copy-out-backwards
     cast-backwards
     backwards-requires
     put-requires

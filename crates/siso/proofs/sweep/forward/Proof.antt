@@ -1,5 +1,5 @@
 -- `siso::sweep::forward` meets its contract. The invariant: the metrics held are the forward row before section k, and the working list has the
--- rows up to it.
+-- rows up to it. State 0 of the last row tells whether a path reaches the end.
 -- Assumes nothing.
 use mathlib.Core.Path.{_≡_, refl, sym, ap, _∙_}
 use mathlib.Core.List.{List}
@@ -11,6 +11,7 @@ use lib.ListN.{length, getD}
 use mir.Facts.{toZ-ofZ}
 use borrow.Author.Needs.{needs}
 use Rattle.integers.specs.laws.Linear.{fits-of, widen, read-back}
+use Rattle.lists.specs.Lists.{found}
 use Rattle.trellis.specs.Table.{Table, tableOf}
 use Rattle.trellis.specs.Path.{Values, aprioriAt}
 use Rattle.trellis.specs.laws.Sweeps.{boundary, forward, forward-start}
@@ -171,13 +172,26 @@ loop-again c =
     let same = row-moved (c .before .before .before) in
     (omega (arith, turn .loop-test .taken), c .before .save2 .kept .1 .1 .0 ∙ inv .1, rw add-one same, rows-more p (turn .loop-test .taken) same (c .before .save2 .ensures) (inv .3))
 
+-- ---- after the loop
+
+array-copy-out-end : tie.Need-array-copy-out-end Inv-loop μ-loop
+array-copy-out-end c = search needs
+
+reached-requires : tie.Need-reached-requires Inv-loop μ-loop
+reached-requires c κs = search needs
+
 same-length : tie.Need-same-length Inv-loop μ-loop
-same-length c = c .before .loop .inv .1 ∙ sym (c .before .before .before .before .before .before .before .before .pre .1)
+same-length c =
+    let at = c .before .before .before in
+    at .loop .inv .1 ∙ sym (at .before .before .before .before .before .before .before .pre .1)
 
 returns : tie.Need-returns Inv-loop μ-loop
 returns c =
-    let e : c .before .loop .k ≡ c .before .before .before .before .before .before .before .before .args .sections = omega arith in
-    (rw e at (c .before .loop .inv .3), rw e at (c .before .loop .inv .2))
+    let last = c .before .before in
+    let first = last .before .before .before .before .before .before .before .before in
+    let e : last .before .loop .k ≡ first .args .sections = omega (arith, last .loop-test .left) in
+    let inv = rw e at (last .before .loop .inv) in
+    (inv .3, c .reached .ensures ∙ ap found (inv .2 0 (omega (arith, table-limits (first .pre .0)))))
 
 pub forward-spec : {M : Type 1} → statement M
 forward-spec =
@@ -204,5 +218,7 @@ forward-spec =
     save-requires-2
     loop-less
     loop-again
+    array-copy-out-end
+    reached-requires
     same-length
     returns)

@@ -1,44 +1,34 @@
--- `siso::sweep::run` meets its contract: the last forward row tells whether there is a path, and the backward sweep writes the lists.
+-- `siso::sweep::run` meets its contract: the forward sweep tells whether there is a path, and the backward sweep writes the lists.
 -- Assumes nothing.
 use mathlib.Core.Path.{_≡_, sym, ap, _∙_}
 use mathlib.Core.Bool.{not}
-use native.Mathlib.Omega.{arith}
 use lib.IntN.{pos}
 use lib.ListN.{length, replicate}
 use borrow.Author.Needs.{needs}
-use Rattle.lists.specs.Lists.{found}
 use Rattle.trellis.specs.Outcome.{pathless}
 use Rattle.trellis.specs.Table.{tableOf}
-use Rattle.siso.specs.laws.Passed.{table-limits}
 use Rattle.siso.specs.laws.Settled.{reached-is, settled-none, settled-done}
 use Rattle.siso.proofs.sweep.run.Statement.{statement}
 use Rattle.siso.proofs.sweep.run.Tie as tie
 
 -- ---- after the forward sweep
 
-abbrev start : tie.After-reached → tie.Start
-start c = c .before .before .before .before .before .before .before .before
+abbrev start : tie.After-work → tie.Start
+start c = c .before .before .before .before .before .before
 
-path-told : (c : tie.After-reached) → pathless (tableOf (start c .args .states) (start c .args .outputs) (start c .args .next .now) (start c .args .words .now)) (start c .args .sections) ≡ not (c .reached .result)
-path-told c =
-    let p = start c .pre .0 in
-    reached-is p
-    ∙ ap (λ x. not (found x)) (sym (c .before .before .before .forward .ensures .1 0 (omega (arith, table-limits p))))
-    ∙ ap not (sym (c .reached .ensures))
+path-told :
+    (c : tie.After-work)
+    → let args = start c .args in
+    pathless (tableOf (args .states) (args .outputs) (args .next .now) (args .words .now)) (args .sections) ≡ not (c .before .forward .result)
+path-told c = reached-is (start c .pre .0) ∙ ap not (sym (c .before .forward .ensures .1))
 
-work-length : (c : tie.After-reached) → length (c .before .before .before .forward .last .1 .1 .1 .1 .1 .1 .1 .0) ≡ length (start c .args .work .now)
-work-length c = c .before .before .before .forward .kept .1 .1 .1 .1 .1 .1 .1 .0
+work-length : (c : tie.After-work) → length (c .before .forward .last .1 .1 .1 .1 .1 .1 .1 .0) ≡ length (start c .args .work .now)
+work-length c = c .before .forward .kept .1 .1 .1 .1 .1 .1 .1 .0
 
 -- ---- the needs
 
 forward-requires : tie.Need-forward-requires
 forward-requires c κs = search needs
-
-array-copy-out-end : tie.Need-array-copy-out-end
-array-copy-out-end c = search needs
-
-reached-requires : tie.Need-reached-requires
-reached-requires c κs = search needs
 
 clear-requires : tie.Need-clear-requires
 clear-requires c κs = search needs
@@ -55,7 +45,7 @@ backward-requires : tie.Need-backward-requires
 backward-requires c κs =
     let turn = c .before .before .before .before .before in
     let pre = start turn .pre in
-    (pre .0, (path-told turn ∙ c .before .before .before .before .if1 .left, (work-length turn ∙ pre .1 .0, (turn .before .before .before .forward .ensures .0, (pre .1 .1 .0, (pre .1 .1 .1 .0, pre .1 .1 .1 .1))))))
+    (pre .0, (path-told turn ∙ c .before .before .before .before .if1 .left, (work-length turn ∙ pre .1 .0, (turn .before .forward .ensures .0, (pre .1 .1 .0, (pre .1 .1 .1 .0, pre .1 .1 .1 .1))))))
 
 clear-requires-2 : tie.Need-clear-requires-2
 clear-requires-2 c κs = search needs
@@ -90,8 +80,6 @@ run-spec =
     tie.close
     (tie.spec
     forward-requires
-    array-copy-out-end
-    reached-requires
     clear-requires
     same-length
     returns

@@ -1,125 +1,71 @@
--- `sweep::settle` returns the definition's position at a section: the two best metrics are those of the recursions, and the intrinsic part is
--- the definition's.
+-- `sweep::settle` returns the position of the two best metrics at a section and the intrinsic part there.
 -- Assumes nothing.
-use borrow.Author.Needs.{needs}
+use mathlib.Core.Bool.{cond}
+use mathlib.Core.Path.{_≡_}
 use native.Mathlib.Omega.{arith}
-use mathlib.Core.Path.{_∙_}
-use Prim.Native.Nat.{_*_}
-use lib.IntN.{pos}
-use lib.ListN.{getD}
-use mir.Syntax.{w16, w32}
+use lib.IntN.{pos, _+ℤ_}
+use mir.Syntax.{w32}
 use mir.Val.{SFits}
-use Rattle.integers.specs.laws.Linear.{plain, fits-of, widen}
-use Rattle.trellis.specs.Path.{aprioriAt}
-use Rattle.siso.specs.laws.Between.{best-asked, best-is}
-use Rattle.siso.specs.laws.Held.{there}
-use Rattle.trellis.specs.Table.{tableOf}
-use Rattle.siso.specs.Lent.{valuesOf}
-use Rattle.siso.proofs.Places.{channel-place}
-use Rattle.siso.proofs.Settled.{Met, told-asked, told-is, settled-is, settled-asked}
+use borrow.Author.Needs.{needs}
+use Rattle.integers.specs.laws.Linear.{plain, widen}
+use Rattle.siso.specs.laws.Held.{there, bestOf}
+use Rattle.siso.proofs.Settled.{told-within}
 use Rattle.siso.proofs.sweep.settle.Statement.{statement}
 use Rattle.siso.proofs.sweep.settle.Tie as tie
 
-mul-value : tie.Need-mul-value
-mul-value c = search needs
-
-shared-slice-copy-out-value : tie.Need-shared-slice-copy-out-value
-shared-slice-copy-out-value c = search needs
-
--- the a-priori value that is read
-value-fits : (c : tie.After-value) → let args = c .before .before .before .args in SFits w16 (getD (args .apriori .now) (args .k) (pos 0))
-value-fits c = fits-of (c .value .given)
-
-cast-a : tie.Need-cast-a
-cast-a c = let fits = value-fits c in simp plain (widen fits)
+cast-wide : tie.Need-cast-wide
+cast-wide c = let a = c .before .before .fits .a in simp plain (widen a)
 
 best-requires : tie.Need-best-requires
-unfolding aprioriAt
 best-requires c κs =
-    let fits = value-fits c in
-    let (pass, (path, (sys, (here, between)))) = c .before .before .before .pre in
-    simp plain (best-asked pass here between 0 (omega arith))
+    let start = c .before .before in
+    let a = start .fits .a in
+    let pre = start .pre in
+    simp plain (pre .branches, (pre .branch-metrics, (pre .before, (pre .after, omega arith))))
 
 best-requires-2 : tie.Need-best-requires-2
-unfolding aprioriAt
 best-requires-2 c κs =
-    let fits = value-fits (c .before) in
-    let (pass, (path, (sys, (here, between)))) = c .before .before .before .before .pre in
-    simp plain (best-asked pass here between 1 (omega arith))
-
-mul-intrinsic : tie.Need-mul-intrinsic
-mul-intrinsic c = let start = c .before .before .before .before .before in omega (arith, channel-place (start .pre .0) (start .pre .1 .1 .1 .0))
-
-mul-intrinsic-2 : tie.Need-mul-intrinsic-2
-mul-intrinsic-2 c = let start = c .before .before .before .before .before in omega (arith, channel-place (start .pre .0) (start .pre .1 .1 .1 .0))
-
-shared-slice-copy-out-intrinsic : tie.Need-shared-slice-copy-out-intrinsic
-shared-slice-copy-out-intrinsic c =
-    let start = c .before .before .before .before .before in omega (arith, channel-place (start .pre .0) (start .pre .1 .1 .1 .0))
-
--- the channel value that is read
-channel-fits :
-    (c : tie.After-intrinsic-arg)
-    → let args = c .before .before .before .before .before .before .args in SFits w16 (getD (args .channel .now) (args .outputs * args .k) (pos 0))
-channel-fits c = fits-of (c .intrinsic-arg .given)
+    let start = c .before .before .before in
+    let a = start .fits .a in
+    let pre = start .pre in
+    simp plain (pre .branches, (pre .branch-metrics, (pre .before, (pre .after, omega arith))))
 
 intrinsic-requires : tie.Need-intrinsic-requires
 intrinsic-requires c κs =
-    let value = value-fits (c .before .before .before) in
-    let first = channel-fits c in
-    let start = c .before .before .before .before .before .before in
-    simp plain (told-asked (start .pre .0) (start .args .k))
+    let start = c .before .before .before .before in
+    let a = start .fits .a in
+    let y = start .fits .y in
+    simp plain (start .pre .channel, start .pre .branch-metrics .apriori)
 
 -- both best metrics, and the intrinsic part
-met :
+found :
     (c : tie.After-intrinsic)
-    → let both = c .before .before in
-    let args = both .before .before .before .before .before .args in
-    Met
-    (tableOf (args .states) (args .outputs) (args .next .now) (args .words .now))
-    (valuesOf (args .channel .now) (args .apriori .now))
-    (args .sections)
-    (args .k)
-    (there (both .before .best .result))
-    (there (both .best2 .result))
-    (c .intrinsic .result)
-unfolding aprioriAt
-met c =
-    let both = c .before .before in
-    let value = value-fits (both .before .before) in
-    let first = channel-fits (c .before) in
-    let start = both .before .before .before .before .before in
-    let (pass, (path, (sys, (here, between)))) = start .pre in
-    record {
-      best-zero = (simp plain at (both .before .best .ensures)) ∙ best-is pass here between 0 (omega arith);
-      best-one = (simp plain at (both .best2 .ensures)) ∙ best-is pass here between 1 (omega arith);
-      intrinsic-part = (simp plain at (c .intrinsic .ensures)) ∙ told-is _ _ (start .args .k) sys;
-    }
+    → let both = c .before in
+    let args = both .before .before .before .before .args in
+    (there (both .before .best .result) ≡ bestOf (args .states) (args .next .now) (args .words .now) (args .g) (args .a) (args .f) (args .m) 0)
+    × (there (both .best2 .result) ≡ bestOf (args .states) (args .next .now) (args .words .now) (args .g) (args .a) (args .f) (args .m) 1)
+    × (c .intrinsic .result ≡ args .a +ℤ cond (args .sys) (args .y) (pos 0))
+found c =
+    let both = c .before in
+    let a = both .before .before .before .before .fits .a in
+    let y = both .before .before .before .before .fits .y in
+    (simp plain at (both .before .best .ensures), simp plain at (both .best2 .ensures), simp plain at (c .intrinsic .ensures))
 
 settled-requires : tie.Need-settled-requires
 settled-requires c κs =
     let told : SFits w32 (c .intrinsic .result) = search needs in
-    let (pass, (path, (sys, (here, between)))) = c .before .before .before .before .before .before .before .pre in
-    simp plain (settled-asked pass here (met c) path)
+    let start = c .before .before .before .before .before in
+    let pre = start .pre in
+    let (zero, one, part) = found c in
+    simp plain
+    (rw (zero, one, part)
+    (pre .small 0 (omega arith), (pre .small 1 (omega arith), (told-within (start .args .sys) (pre .branch-metrics .apriori) (pre .channel), pre .path))))
 
 returns : tie.Need-returns
 returns c =
     let told : SFits w32 (c .before .intrinsic .result) = search needs in
-    let (pass, (path, (sys, (here, between)))) = c .before .before .before .before .before .before .before .before .pre in
-    (simp plain at (c .settled .ensures)) ∙ settled-is pass here (met (c .before))
+    let (zero, one, part) = found (c .before) in
+    rw (zero, one, part) at (simp plain at (c .settled .ensures))
 
 pub settle-spec : {M : Type 1} → statement M
-settle-spec =
-    tie.close
-    (tie.spec
-    mul-value
-    shared-slice-copy-out-value
-    cast-a
-    best-requires
-    best-requires-2
-    mul-intrinsic
-    mul-intrinsic-2
-    shared-slice-copy-out-intrinsic
-    intrinsic-requires
-    settled-requires
-    returns)
+settle-spec = tie.close (tie.spec cast-wide best-requires best-requires-2 intrinsic-requires settled-requires returns)
