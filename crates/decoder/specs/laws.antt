@@ -8,3 +8,6 @@ pub mod Passing
 pub mod Iterating
 pub mod Handing
 pub mod Running
+pub mod Marks
+pub mod Finishing
+pub mod Settled

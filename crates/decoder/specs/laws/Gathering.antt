@@ -17,7 +17,8 @@ use Rattle.lists.specs.laws.Every.{every-at, at-every}
 use Rattle.trellis.specs.Limits.{channelLimit, channelFits}
 use Rattle.frame.specs.Frame.{Frame, frameOf, sections, flagsUnder, spread}
 use Rattle.frame.specs.laws.Interleaving.{Permutes}
-use Rattle.frame.specs.laws.Puncturing.{sentTo, spread-at}
+use Rattle.frame.specs.laws.Flags.{flags-length}
+use Rattle.frame.specs.laws.Puncturing.{sentTo, spread-length, spread-at}
 use Rattle.decoder.specs.Decoder.{channel1, channel2}
 use Rattle.decoder.specs.laws.Channels.{channel1-length, channel1-systematic, channel1-parity, channel1-tail}
 use Rattle.decoder.specs.laws.Channels.{channel2-length, channel2-systematic, channel2-parity, channel2-tail}
@@ -139,3 +140,18 @@ module _ (p : List ℕ) (t : ℕ) (w : Permutes (length p) p) where
   gathered-fits second r long e =
       fits-from r (channelOf second p t r) e
       (λ i h. (placeOf second p t i, gathered-at p t w r i second (omega (arith, gathered-length p t w second r long))))
+
+-- what both passes gather of a frame: two values a section, within their limits
+module _ {p : List ℕ} {t : ℕ} {masks : List ℕ} {received first second : List ℤ} (w : Permutes (length p) p) (gathered : Gathered p t masks received first second)
+    (fits : channelFits received ≡ true) where
+  abbrev places : List ℤ
+  places = spread (pos 0) (flagsUnder masks (length p) t) received
+
+  places-long : length places ≡ 3 * length p + 4 * t
+  places-long = spread-length (pos 0) (flagsUnder masks (length p) t) received ∙ flags-length masks (length p) t
+
+  pub first-small : channelFits first ≡ true
+  first-small = rw (gathered .first-is) (gathered-fits p t w false places places-long (spread-fits _ received fits))
+
+  pub second-small : channelFits second ≡ true
+  second-small = rw (gathered .second-is) (gathered-fits p t w true places places-long (spread-fits _ received fits))

@@ -126,21 +126,21 @@ pub said-over : {next words : List ℕ} {t : ℕ} {pattern : List ℕ} {a aprior
 said-over prior said = rw (prior .is) at said
 
 -- the first K entries of what a pass says are what the definition of a pass says
-module _ (next words : List ℕ) (t : ℕ) (pattern : List ℕ) (channel : List ℤ) {a apriori : List ℤ} (prior : IsPrior pattern t a apriori)
+module _ (next words : List ℕ) (t : ℕ) (pattern : List ℕ) (channel a : List ℤ) {apriori : List ℤ} (prior : apriori ≡ a ++ replicate t (pos 0))
     {marks : List ℕ} {margins extrinsics : List ℤ} (said : Said (tableBy next words) (valuesOf channel apriori) (length pattern + t) marks margins extrinsics) where
   pub extrinsics-said : take (length pattern) extrinsics ≡ pass (frameBy next words t pattern) channel a .extrinsics
   unfolding pass sections extrinsicsOf
   extrinsics-said =
       ap (λ (l : List ℤ). take (length pattern) l) (said .extrinsics-are)
       ∙ take-listed _ (length pattern + t) (length pattern) (pos 0) (omega arith)
-      ∙ ap (λ (l : List ℤ). extrinsicsOf (tableBy next words) (valuesOf channel l) (length pattern + t) (length pattern)) (prior .is)
+      ∙ ap (λ (l : List ℤ). extrinsicsOf (tableBy next words) (valuesOf channel l) (length pattern + t) (length pattern)) prior
 
   pub margins-said : take (length pattern) margins ≡ pass (frameBy next words t pattern) channel a .margins
   unfolding pass sections marginsOf
   margins-said =
       ap (λ (l : List ℤ). take (length pattern) l) (said .margins-are)
       ∙ take-listed _ (length pattern + t) (length pattern) (pos 0) (omega arith)
-      ∙ ap (λ (l : List ℤ). marginsOf (tableBy next words) (valuesOf channel l) (length pattern + t) (length pattern)) (prior .is)
+      ∙ ap (λ (l : List ℤ). marginsOf (tableBy next words) (valuesOf channel l) (length pattern + t) (length pattern)) prior
 
 -- what a pass says of the K message positions
 pub extrinsics-long : (f : Frame) (channel a : List ℤ) → length (pass f channel a .extrinsics) ≡ f .bits
@@ -161,7 +161,7 @@ module _ (next words : List ℕ) (t : ℕ) (pattern : List ℕ) (w : Permutes (l
     pub handed-on : IsPrior pattern t (handedOn frame first second a) (front ++ drop (length pattern) apriori)
     unfolding handedOn handOn
     handed-on =
-        let says = extrinsics-said next words t pattern first prior said in
+        let says = extrinsics-said next words t pattern first a (prior .is) said in
         prior-again prior
         (front-is ∙ ap (λ (l : List ℤ). interleave (pos 0) pattern (map handOver l)) says)
         (interleave-length (pos 0) (length pattern) pattern w (map handOver (pass frame first a .extrinsics)))
@@ -177,5 +177,5 @@ module _ (next words : List ℕ) (t : ℕ) (pattern : List ℕ) (first second a 
   unfolding handBack secondSays
   handed-back =
       ap₂ _++_
-      (front-is ∙ ap (λ (l : List ℤ). deinterleave (pos 0) pattern (map handOver l)) (extrinsics-said next words t pattern second prior said))
+      (front-is ∙ ap (λ (l : List ℤ). deinterleave (pos 0) pattern (map handOver l)) (extrinsics-said next words t pattern second (handedOn (frameBy next words t pattern) first second a) (prior .is) said))
       (ap (λ (l : List ℤ). drop (length pattern) l) (prior .is) ∙ drop-at (handedOn (frameBy next words t pattern) first second a) (replicate t (pos 0)) (length pattern) (prior .long))

@@ -14,12 +14,13 @@ use Rattle.lists.specs.laws.Tests.{or-cases}
 use Rattle.refusal.specs.declared.Refusal.the-variants.{NoPath, ForcedPosition}
 use Rattle.refusal.specs.declared.Reply.{Reply}
 use Rattle.refusal.specs.declared.Reply.the-variants.{Done, Refused}
-use Rattle.refusal.specs.Refusals.{told, check, _then_, cleared}
+use Rattle.refusal.specs.Refusals.{check, _then_}
 use Rattle.refusal.specs.laws.Checks.{refused-is-not-done, done-then}
 use Rattle.trellis.specs.Path.{class}
 use Rattle.trellis.specs.Outcome.{pathless, forced}
 use Rattle.frame.specs.Frame.{Frame, sections}
 use Rattle.decoder.specs.Decoder.{DecodeCall, DecodeLent, decodeChecked, decodeWalked, decodeReply, decodeSettled, decode}
+use Rattle.decoder.specs.laws.Settled.{walked-clears}
 use Rattle.demands.specs.Meaning.{SomePath}
 use Rattle.refusal.specs.laws.Kept.{after-refusal}
 use Rattle.demands.specs.laws.Told.{Tells, path-told, class-empty}
@@ -121,15 +122,8 @@ module _ (c : DecodeCall) (l : DecodeLent) (passed : decodeChecked c l ≡ Done)
 
   -- 12 and 13 clear the working list, as success does
   pub decode-clears : decode c l .lists .work ≡ replicate (length (l .work)) (pos 0)
-  unfolding decode decodeSettled decodeReply decodeWalked
-  decode-clears =
-      rw (done-then {y = decodeWalked c} passed)
-      (go (not (pathless (c .frame .table) (sections (c .frame)))) (any (forced (c .frame .table) (sections (c .frame))) (upto (c .frame .bits))))
-    where
-      go : (b d : Bool) → cleared (check b NoPath then check (not d) ForcedPosition) (l .work) ≡ replicate (length (l .work)) (pos 0)
-      go false d = unfold check _then_ cleared told in refl
-      go true true = unfold check _then_ cleared told in refl
-      go true false = unfold check _then_ cleared told in refl
+  unfolding decode decodeSettled decodeReply
+  decode-clears = rw (done-then {y = decodeWalked c} passed) (walked-clears c (l .work))
 
 -- any refusal keeps the result lists
 pub decode-keeps : (c : DecodeCall) (l : DecodeLent) → (decode c l .reply ≡ Done → ⊥) → AreKept l (decode c l .lists)

@@ -6,9 +6,10 @@ use Prim.Native.Nat.{ℕ, _+_, _<_, _≤_}
 use native.Mathlib.Omega.{arith}
 use lib.Dec.{leb, ltb}
 use lib.ListN.{length, getD}
-use borrow.Author.Tests.{leb-true, ltb-true}
+use borrow.Author.Tests.{leb-true, le-leb, ltb-true}
 use Rattle.lists.specs.laws.Every.{every-at}
-use Rattle.lists.specs.laws.Tests.{and-left, and-right, and-both}
+use Rattle.lists.specs.laws.Tests.{and-left, and-right, and-both, and-true}
+use Rattle.trellis.specs.Limits.{sectionsFit}
 use Rattle.trellis.specs.Table.{shaped, branched}
 use Rattle.trellis.specs.laws.Branches.{shaped-is}
 use Rattle.frame.specs.laws.Interleaving.{Permutes, permuting}
@@ -37,6 +38,14 @@ pub sizes-small : (k t : ℕ) → goodSizes k t ≡ true → (t ≤ 4) × (k + t
 sizes-small k t e =
     let (each, both) = and-both _ _ e in
     (leb-true _ _ (and-right (leb 1 k) _ each), leb-true _ _ both)
+
+-- K + T sections are a pass's
+pub sections-fit : (k t : ℕ) → goodSizes k t ≡ true → sectionsFit (k + t) ≡ true
+unfolding sectionsFit
+sections-fit k t e =
+    let (each, both) = and-both _ _ e in
+    let some : 1 ≤ k + t = omega (arith, leb-true 1 k (and-left _ _ each)) in
+    and-true (le-leb 1 (k + t) some) both
 
 pub checked : (f : Frame) → Framed f → Checked f
 unfolding masksFit sizesFit

@@ -5,7 +5,6 @@ use borrow.Author.Needs.{needs}
 use Rattle.decoder.proofs.pass.pass.Statement.{statement}
 use Rattle.decoder.proofs.pass.pass.Tie as tie
 
-
 decode-requires : tie.Need-decode-requires
 decode-requires c κs = search needs
 
