@@ -75,7 +75,9 @@ pub fn puncture(
     requires { ⌜ bits + tail ≤ 4096 ⌝ }
     requires { ⌜ length (now sent) ≡ lengthUnder (now masks) bits tail ⌝ }
     requires { ⌜ ((i : ℕ) → i < length (now masks) → getD (now masks) i 0 < 8) ⌝ }
-    ensures { λ _. ⌜ now (sent .exit) ≡ punctured (flagsUnder (now (masks .entry)) bits tail) (placesOf bits tail (now (first .entry)) (now (second .entry))) ⌝ }
+    ensures { λ _. ⌜ now (sent .exit) ≡ punctured
+        (flagsUnder (now (masks .entry)) bits tail)
+        (placesOf bits tail (now (first .entry)) (now (second .entry))) ⌝ }
 {
     let mut at: usize = 0;
     let mut i: usize = 0;

@@ -44,7 +44,9 @@ fn walk_tail(next: &[u8], words: &[u8], start: usize, inputs: u8, out: &mut [u8]
     requires { ⌜ Leads (now next) start ⌝ }
     requires { ⌜ length (now words) ≡ length (now next) ⌝ }
     requires { ⌜ at ≤ length (now out) ⌝ }
-    ensures { λ _. ⌜ Continued (now (next .entry)) (now (words .entry)) start (bitsOf (length (now (out .entry)) - at) inputs) at (now (out .entry)) (now (out .exit)) ⌝ }
+    ensures { λ _. ⌜ Continued (now (next .entry)) (now (words .entry)) start
+        (bitsOf (length (now (out .entry)) - at) inputs)
+        at (now (out .entry)) (now (out .exit)) ⌝ }
 {
     let mut s = start;
     let mut rest = inputs;
@@ -93,7 +95,9 @@ fn code_interleaved(
     requires { ⌜ tail ≤ 4 ⌝ }
     requires { ⌜ length (now message) ≤ 4096 ⌝ }
     requires { ⌜ length (now out) ≡ length (now message) + tail ⌝ }
-    ensures { λ r. ⌜ Coded (now (next .entry)) (now (words .entry)) tail (interleave 0 (now (pattern .entry)) (now (message .entry))) r (now (out .exit)) ⌝ }
+    ensures { λ r. ⌜ Coded (now (next .entry)) (now (words .entry)) tail
+        (interleave 0 (now (pattern .entry)) (now (message .entry)))
+        r (now (out .exit)) ⌝ }
 {
     let bits = message.len();
     let mut interleaved = blank();
@@ -119,8 +123,16 @@ pub fn run(
     masks: &[u8],
     sent: &mut [u8],
 ) -> Reply
-    requires { ⌜ Codable (readCall (now next) (now words) bits tail (now message) (now pattern) (now masks) .frame) (now message) (now sent) ⌝ }
-    ensures { λ r. ⌜ encodedOf r (now (sent .exit)) ≡ encodeSettled (tailed (readCall (now (next .entry)) (now (words .entry)) bits tail (now (message .entry)) (now (pattern .entry)) (now (masks .entry)))) (readCall (now (next .entry)) (now (words .entry)) bits tail (now (message .entry)) (now (pattern .entry)) (now (masks .entry))) (now (sent .entry)) ⌝ }
+    requires { ⌜ Codable
+        (readCall (now next) (now words) bits tail (now message) (now pattern) (now masks) .frame)
+        (now message) (now sent) ⌝ }
+    ensures { λ r. ⌜ encodedOf r (now (sent .exit))
+        ≡ encodeSettled
+        (tailed (readCall (now (next .entry)) (now (words .entry)) bits tail
+        (now (message .entry)) (now (pattern .entry)) (now (masks .entry))))
+        (readCall (now (next .entry)) (now (words .entry)) bits tail
+        (now (message .entry)) (now (pattern .entry)) (now (masks .entry)))
+        (now (sent .entry)) ⌝ }
 {
     let end = bits + tail;
     let mut first = blank();

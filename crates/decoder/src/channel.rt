@@ -70,7 +70,8 @@ pub fn gather_both(
     requires { ⌜ length (now received) ≡ lengthUnder (now masks) (length (now pattern)) t ⌝ }
     requires { ⌜ length (now first) ≡ 2 * (length (now pattern) + t) ⌝ }
     requires { ⌜ length (now second) ≡ 2 * (length (now pattern) + t) ⌝ }
-    ensures { λ _. ⌜ Gathered (now (pattern .entry)) t (now (masks .entry)) (now (received .entry)) (now (first .exit)) (now (second .exit)) ⌝ }
+    ensures { λ _. ⌜ Gathered (now (pattern .entry)) t (now (masks .entry)) (now (received .entry))
+        (now (first .exit)) (now (second .exit)) ⌝ }
 {
     let k = pattern.len();
     let count = 3 * k + 4 * t;

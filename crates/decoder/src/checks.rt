@@ -16,8 +16,8 @@ ghost use Rattle.decoder.specs.laws.Settled.{Sized};
 use refusal::Refusal;
 use refusal::Reply;
 
-// The decoder's lists, by their lengths: the pattern and the result lists have K entries, the frame its own length, and the working list a row of
-// metrics before each section and one after the last.
+// The decoder's lists, by their lengths: the pattern and the result lists have K entries, the frame its own length, and
+// the working list a row of metrics before each section and one after the last.
 fn decode_lists_fit(
     states: usize,
     k: usize,
@@ -33,7 +33,8 @@ fn decode_lists_fit(
     requires { ⌜ states ≤ 16 ⌝ }
     requires { ⌜ k + t ≤ 4096 ⌝ }
     ensures { λ r. ⌜ r ≡ (eqb pattern k
-        && (goodSizes k t && (not (goodMasks (now (masks .entry))) || eqb received (lengthUnder (now (masks .entry)) k t)))
+        && (goodSizes k t
+        && (not (goodMasks (now (masks .entry))) || eqb received (lengthUnder (now (masks .entry)) k t)))
         && eqb bits k
         && eqb margins k
         && eqb extrinsics k
@@ -79,7 +80,8 @@ fn entries_reply(
     iterations: usize,
 ) -> Reply
     ensures { λ r. ⌜ r ≡ (check (channelFits (now (received .entry))) Value
-        then check (leb (length (now (pattern .entry))) 4096 && permutes (length (now (pattern .entry))) (now (pattern .entry))) Pattern
+        then check (leb (length (now (pattern .entry))) 4096
+        && permutes (length (now (pattern .entry))) (now (pattern .entry))) Pattern
         then check (goodMasks (now (masks .entry))) Mask
         then check (goodIterations iterations) Iterations
         then check (goodCoder (tableOf states outputs (now (next .entry)) (now (words .entry)))) Coder) ⌝ }
@@ -94,7 +96,7 @@ fn entries_reply(
     refusal::first_of(values_reply, refusal::first_of(pattern_reply, frame_reply))
 }
 
-// The reply to a call of the decoder, but for 12 and 13, from what is lent alone; of the result lists and the working list the lengths.
+// The reply to a call of the decoder, but for 12 and 13, from what is lent alone: of the lists to be written, their lengths.
 pub fn decode_reply(
     states: usize,
     outputs: usize,

@@ -24,7 +24,8 @@ fn pass(
 ) -> Reply
     requires { ⌜ Passing (now next) (now words) sections (now channel) (now apriori)
         (length (now marks)) (length (now margins)) (length (now extrinsics)) (length (now work)) ⌝ }
-    ensures { λ r. ⌜ Passed (now (next .entry)) (now (words .entry)) sections (now (channel .entry)) (now (apriori .entry))
+    ensures { λ r. ⌜ Passed (now (next .entry)) (now (words .entry)) sections
+        (now (channel .entry)) (now (apriori .entry))
         r (now (marks .exit)) (now (margins .exit)) (now (extrinsics .exit)) (now (work .exit)) ⌝ }
 {
     siso::decode(
@@ -42,7 +43,8 @@ fn pass(
     )
 }
 
-// An iteration: pass 1, then pass 2 on interleaved values. Its lists are pass 2's, and the a-priori values those of the next pass 1.
+// An iteration: pass 1, then pass 2 on interleaved values. Its lists are pass 2's, and the a-priori values those of the
+// next pass 1.
 fn iteration(
     next: &[u8],
     words: &[u8],
@@ -59,9 +61,11 @@ fn iteration(
     requires { ⌜ Fitting (now next) (now words) t (now pattern) (now first) (now second)
         (length (now marks)) (length (now margins)) (length (now extrinsics)) (length (now work)) ⌝ }
     requires { ⌜ IsPrior (now pattern) t (take (length (now pattern)) (now apriori)) (now apriori) ⌝ }
-    ensures { λ r. ⌜ Iterated (now (next .entry)) (now (words .entry)) t (now (pattern .entry)) (now (first .entry)) (now (second .entry))
+    ensures { λ r. ⌜ Iterated (now (next .entry)) (now (words .entry)) t (now (pattern .entry))
+        (now (first .entry)) (now (second .entry))
         (take (length (now (pattern .entry))) (now (apriori .entry)))
-        r (now (apriori .exit)) (now (marks .exit)) (now (margins .exit)) (now (extrinsics .exit)) (now (work .exit)) ⌝ }
+        r (now (apriori .exit)) (now (marks .exit)) (now (margins .exit)) (now (extrinsics .exit))
+        (now (work .exit)) ⌝ }
 {
     let k = pattern.len();
     let sections = k + t;
@@ -117,7 +121,8 @@ pub fn iterate(
         (length (now marks)) (length (now margins)) (length (now extrinsics)) (length (now work)) ⌝ }
     requires { ⌜ now apriori ≡ replicate (length (now pattern) + t) (pos 0) ⌝ }
     requires { ⌜ 0 < iterations ⌝ }
-    ensures { λ r. ⌜ Ended (now (next .entry)) (now (words .entry)) t (now (pattern .entry)) (now (first .entry)) (now (second .entry))
+    ensures { λ r. ⌜ Ended (now (next .entry)) (now (words .entry)) t (now (pattern .entry))
+        (now (first .entry)) (now (second .entry))
         iterations r (now (marks .exit)) (now (margins .exit)) (now (extrinsics .exit)) (now (work .exit)) ⌝ }
 {
     let mut i: usize = 0;

@@ -77,7 +77,9 @@ pub fn conclude(
 ) -> Reply
     requires { ⌜ Concluding (now pattern) (length (now marks2)) (length (now margins2)) (length (now extrinsics2))
         (length (now bits)) (length (now margins)) (length (now extrinsics)) ⌝ }
-    ensures { λ r. ⌜ r ≡ check (every (λ m. eqb m 2) (take (length (now (pattern .entry))) (now (marks2 .entry)))) ForcedPosition ⌝ }
+    ensures { λ r. ⌜ r ≡ check
+        (every (λ m. eqb m 2) (take (length (now (pattern .entry))) (now (marks2 .entry))))
+        ForcedPosition ⌝ }
     ensures { λ r. ⌜ now (bits .exit) ≡ after r
         (deinterleave 0 (now (pattern .entry)) (map decidedOf (take (length (now (pattern .entry))) (now (margins2 .entry)))))
         (now (bits .entry)) ⌝ }

@@ -61,7 +61,8 @@ fn passes(
     requires { ⌜ length (now bits) ≡ length (now pattern) ⌝ }
     requires { ⌜ length (now margins) ≡ length (now pattern) ⌝ }
     requires { ⌜ length (now extrinsics) ≡ length (now pattern) ⌝ }
-    ensures { λ r. ⌜ Finished (now (next .entry)) (now (words .entry)) t (now (pattern .entry)) (now (first .entry)) (now (second .entry))
+    ensures { λ r. ⌜ Finished (now (next .entry)) (now (words .entry)) t (now (pattern .entry))
+        (now (first .entry)) (now (second .entry))
         iterations r (now (bits .entry)) (now (bits .exit)) (now (margins .entry)) (now (margins .exit))
         (now (extrinsics .entry)) (now (extrinsics .exit)) (now (work .exit)) ⌝ }
 {

@@ -11,7 +11,8 @@ fn take_if(sends: bool, received: &[i16], at: usize, places: &mut [i16], i: usiz
     requires { ⌜ (sends ≡ true → at < length (now received)) ⌝ }
     requires { ⌜ i < length (now places) ⌝ }
     ensures { λ r. ⌜ r ≡ cond sends (at + 1) at ⌝ }
-    ensures { λ _. ⌜ now (places .exit) ≡ set (now (places .entry)) i (cond sends (getD (now (received .entry)) at (pos 0)) (pos 0)) ⌝ }
+    ensures { λ _. ⌜ now (places .exit) ≡ set (now (places .entry)) i
+        (cond sends (getD (now (received .entry)) at (pos 0)) (pos 0)) ⌝ }
 {
     if sends {
         places[i] = received[at];
@@ -28,7 +29,8 @@ pub fn spread(masks: &[u8], bits: usize, tail: usize, received: &[i16], places: 
     requires { ⌜ length (now places) ≡ 3 * bits + 4 * tail ⌝ }
     requires { ⌜ length (now received) ≡ lengthUnder (now masks) bits tail ⌝ }
     requires { ⌜ ((i : ℕ) → i < length (now masks) → getD (now masks) i 0 < 8) ⌝ }
-    ensures { λ _. ⌜ now (places .exit) ≡ spreadOut (pos 0) (flagsUnder (now (masks .entry)) bits tail) (now (received .entry)) ⌝ }
+    ensures { λ _. ⌜ now (places .exit) ≡ spreadOut (pos 0)
+        (flagsUnder (now (masks .entry)) bits tail) (now (received .entry)) ⌝ }
 {
     let mut at: usize = 0;
     let mut i: usize = 0;

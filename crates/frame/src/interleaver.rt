@@ -5,7 +5,8 @@ ghost use lib.Dec.{leb};
 ghost use lib.ListN.{length};
 ghost use Rattle.frame.specs.Interleaver.{permutes as permutesTo};
 
-// Whether there are at most 4,096 entries, and each number below their count stands there exactly once. No entry is cut before it is tested.
+// Whether there are at most 4,096 entries, and each number below their count stands there exactly once. No entry is cut
+// before it is tested.
 pub fn permutes(pattern: &[u32]) -> bool
     ensures { λ r. ⌜
         r ≡ (leb (length (now (pattern .entry))) 4096

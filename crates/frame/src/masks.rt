@@ -13,7 +13,8 @@ fn ones_of(mask: u8) -> usize
     u8::count_ones(mask) as usize
 }
 
-// The frame's length: over the positions, the number of ones in its masks, which repeat, plus four for each tail section.
+// The frame's length: over the positions, the number of ones in its masks, which repeat, plus four for each tail
+// section.
 pub fn frame_length(masks: &[u8], bits: usize, tail: usize) -> usize
     requires { ⌜ 0 < length (now masks) ⌝ }
     requires { ⌜ bits ≤ 4096 ⌝ }
@@ -42,8 +43,8 @@ fn flag(mask: u8, i: usize) -> bool
     }
 }
 
-// Whether place i is sent: what its mask says of a place of a position, and all of both tails. No masks send nothing, and no product is made
-// before it is known to fit.
+// Whether place i is sent: what its mask says of a place of a position, and all of both tails. No masks send nothing, and
+// no product is made before it is known to fit.
 pub fn is_sent(masks: &[u8], bits: usize, tail: usize, i: usize) -> bool
     ensures { λ r. ⌜ r ≡ getD (flagsUnder (now (masks .entry)) bits tail) i false ⌝ }
 {

@@ -45,12 +45,17 @@ handed c =
     handed-on (a .next .now) (a .words .now) (a .t) (a .pattern .now) (begun .pre .0 .permutes) (a .first .now) (a .second .now) (begun .pre .1)
     (said-one (c .before .before .before)) (c .hand-on .ensures)
 
--- the lists have an entry for every message position
-enough : (c : tie.After-pass) → bits (start c) ≤ length (c .pass .last .1 .1 .1 .1 .1 .1 .1 .0)
-enough c = omega (arith, c .pass .kept .1 .1 .1 .1 .1 .1 .1 .0, start c .pre .0 .extrinsics-long)
+-- margins and extrinsics have an entry for every message position
+enough : (c : tie.After-pass) → (bits (start c) ≤ length (c .pass .last .1 .1 .1 .1 .1 .1 .0)) × (bits (start c) ≤ length (c .pass .last .1 .1 .1 .1 .1 .1 .1 .0))
+enough c =
+    let fits = start c .pre .0 in
+    (omega (arith, c .pass .kept .1 .1 .1 .1 .1 .1 .0, fits .margins-long), omega (arith, c .pass .kept .1 .1 .1 .1 .1 .1 .1 .0, fits .extrinsics-long))
 
-enough-again : (c : tie.After-pass2) → bits (start (ran (c .before .before .before .before .before .before .before .before .before .before))) ≤ length (c .pass2 .last .1 .1 .1 .1 .1 .1 .1 .0)
-enough-again c = omega (arith, enough (ran (c .before .before .before .before .before .before .before .before .before .before)), c .pass2 .kept .1 .1 .1 .1 .1 .1 .1 .0)
+enough-again : (c : tie.After-pass2) →
+    let k = bits (start (ran (c .before .before .before .before .before .before .before .before .before .before))) in (k ≤ length (c .pass2 .last .1 .1 .1 .1 .1 .1 .0)) × (k ≤ length (c .pass2 .last .1 .1 .1 .1 .1 .1 .1 .0))
+enough-again c =
+    let fits = enough (ran (c .before .before .before .before .before .before .before .before .before .before)) in
+    (omega (arith, fits .0, c .pass2 .kept .1 .1 .1 .1 .1 .1 .0), omega (arith, fits .1, c .pass2 .kept .1 .1 .1 .1 .1 .1 .1 .0))
 
 enough-prior : (c : tie.Start) → bits c ≤ length (c .args .apriori .now)
 enough-prior c = omega (arith, prior-long (c .pre .1))
@@ -98,10 +103,10 @@ enum-told-2 : tie.Need-enum-told-2
 enum-told-2 c = search needs
 
 slice-reshare-prefix-hand-on : tie.Need-slice-reshare-prefix-hand-on
-slice-reshare-prefix-hand-on c = enough (ran c)
+slice-reshare-prefix-hand-on c = omega (arith, enough (ran c))
 
 slice-aggregate-hand-on : tie.Need-slice-aggregate-hand-on
-slice-aggregate-hand-on c = sym (length-take-le _ _ (enough (ran (c .before))))
+slice-aggregate-hand-on c = sym (length-take-le _ _ (omega (arith, enough (ran (c .before)))))
 
 slice-relend-prefix-hand-on : tie.Need-slice-relend-prefix-hand-on
 slice-relend-prefix-hand-on c = enough-prior (start (ran (c .before)))
@@ -112,7 +117,7 @@ slice-aggregate-hand-on-2 c = sym (length-take-le _ _ (enough-prior (start (ran 
 hand-on-requires : tie.Need-hand-on-requires
 hand-on-requires c κs =
     let at = ran (c .before .before) in
-    (start at .pre .0 .permutes, (length-take-le _ _ (enough at), length-take-le _ _ (enough-prior (start at))))
+    (start at .pre .0 .permutes, (length-take-le _ _ (omega (arith, enough at)), length-take-le _ _ (enough-prior (start at))))
 
 pass-requires-2 : tie.Need-pass-requires-2
 pass-requires-2 c κs =
@@ -153,10 +158,10 @@ enum-told-4 : tie.Need-enum-told-4
 enum-told-4 c = search needs
 
 slice-reshare-prefix-hand-back : tie.Need-slice-reshare-prefix-hand-back
-slice-reshare-prefix-hand-back c = enough-again (c .before .before .before .before .before .before .before)
+slice-reshare-prefix-hand-back c = omega (arith, enough-again (c .before .before .before .before .before .before .before))
 
 slice-aggregate-hand-back : tie.Need-slice-aggregate-hand-back
-slice-aggregate-hand-back c = sym (length-take-le _ _ (enough-again (c .before .before .before .before .before .before .before .before)))
+slice-aggregate-hand-back c = sym (length-take-le _ _ (omega (arith, enough-again (c .before .before .before .before .before .before .before .before))))
 
 slice-relend-prefix-hand-back : tie.Need-slice-relend-prefix-hand-back
 slice-relend-prefix-hand-back c = prior-again (c .before .before .before .before .before .before .before .before .before .before .before .before .before .before .before)
@@ -168,7 +173,7 @@ hand-back-requires : tie.Need-hand-back-requires
 hand-back-requires c κs =
     let at = c .before .before .before .before .before .before .before .before .before .before .before .before .before .before .before .before in
     let begun = start (ran (at .before .before .before)) in
-    (begun .pre .0 .permutes, (length-take-le _ _ (enough-again (c .before .before .before .before .before .before .before .before .before)), length-take-le _ _ (prior-again at)))
+    (begun .pre .0 .permutes, (length-take-le _ _ (omega (arith, enough-again (c .before .before .before .before .before .before .before .before .before))), length-take-le _ _ (prior-again at)))
 
 same-length-11 : tie.Need-same-length-11
 same-length-11 c = search needs
