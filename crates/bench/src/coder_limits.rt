@@ -1,6 +1,7 @@
 // The coder's cases about limits, and the frame of case P7.
-use crate::reply;
-use crate::safe;
+use bench_tools::frames;
+use bench_tools::reply;
+use bench_tools::safe;
 ghost use Prim.Native.Nat.{_≤_};
 
 // Prints the first n entries of a frame's list.
@@ -44,24 +45,13 @@ fn asked(
     reply::number(r)
 }
 
-// The pattern that keeps the order.
-fn in_order() -> [u32; 4096] {
-    let mut pattern = [0u32; 4096];
-    let mut i: usize = 0;
-    while i < 4096 {
-        pattern[i] = i as u32;
-        i += 1;
-    }
-    pattern
-}
-
 // A message of zeros and mask 7, with lists for n bits and a frame's list of `lent`.
 fn with_sizes(states: usize, bits: usize, tail: usize, n: usize, lent: usize) -> usize
     requires { ⌜ n ≤ 4096 ⌝ }
     requires { ⌜ lent ≤ 12300 ⌝ }
 {
     let message = [0u8; 4096];
-    let pattern = in_order();
+    let pattern = frames::in_order();
     asked(
         states,
         bits,

@@ -1,14 +1,14 @@
 // The coder against the plain coder, over drawn calls, sound and faulty: the reply's number, and every entry of the frame's list.
-use crate::coder_calls;
-use crate::coder_calls::Plan;
-use crate::draw;
 use crate::plain_coder;
 use crate::plain_coder::Frame;
-use crate::plain_refusal;
-use crate::reply;
-use crate::safe;
-use crate::tally;
-use crate::tally::Tally;
+use bench_tools::calls;
+use bench_tools::calls::Plan;
+use bench_tools::draw;
+use bench_tools::frames;
+use bench_tools::plain_refusal;
+use bench_tools::reply;
+use bench_tools::tally;
+use bench_tools::tally::Tally;
 ghost use Prim.Native.Nat.{_≤_};
 
 // Where the tally counts what does not agree; the other places are the numbers, 0 for done.
@@ -76,14 +76,6 @@ fn judged(t: Tally, expected: usize, a: Answer, f: Frame) -> Tally {
     tally::one_more(t, WRONG)
 }
 
-// How long the frame's list is that is lent: as long as the frame where off is 1, one entry shorter where it is 0, and longer where it is 2.
-fn lent_length(len: usize, off: usize) -> usize
-    ensures { λ r. ⌜ r ≤ 64 ⌝ }
-{
-    let n = len % 62 + off % 3;
-    if n == 0 { 0 } else { n - 1 }
-}
-
 // One call against the plain coder.
 fn compared(
     t: Tally,
@@ -97,36 +89,28 @@ fn compared(
     let one = plain_coder::coded(true, next, p.bits, p.tail, message, pattern);
     let two = plain_coder::coded(false, next, p.bits, p.tail, message, pattern);
     let f = plain_coder::built(one, two, next, words, masks);
-    let lent = lent_length(f.len, p.off);
+    let lent = frames::lent_length(f.len, p.off);
     let tailless: usize = if one.tailed && two.tailed { 0 } else { 14 };
     let a = plain_refusal::with_table(tailless, p.states, p.outputs, next, words);
-    let expected = plain_refusal::with_frame(
-        a,
-        p.bits,
-        p.tail,
-        message,
-        pattern,
-        masks,
-        lent,
-        f.len,
-    );
+    let b = plain_refusal::with_message(a, p.bits, message);
+    let expected = plain_refusal::with_frame(b, p.bits, p.tail, pattern, masks, lent, f.len);
     let answer = called(p, next, words, message, pattern, masks, lent);
     judged(t, expected, answer, f)
 }
 
 // One drawn call.
 fn draw_one(t: Tally, seed: u32) -> Tally {
-    let p = coder_calls::drawn(seed);
+    let p = calls::drawn(seed, calls::CODER_FAULTS, 12);
     let a = p.next_len % 40;
     let b = p.words_len % 40;
     let c = p.message_len % 40;
     let d = p.pattern_len % 16;
     let e = p.period % 40;
-    let next = coder_calls::next_states(p);
-    let words = coder_calls::words(p);
-    let message = coder_calls::message(p);
-    let pattern = coder_calls::pattern(p);
-    let masks = coder_calls::masks(p);
+    let next = calls::next_states(p);
+    let words = calls::words(p);
+    let message = calls::message(p);
+    let pattern = calls::pattern(p);
+    let masks = calls::masks(p);
     compared(
         t,
         p,

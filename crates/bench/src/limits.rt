@@ -1,7 +1,7 @@
 // The lone decoder's cases of document 01 about limits, and document 001's Table 2.
 use crate::lone;
-use crate::reply;
-use crate::safe;
+use bench_tools::reply;
+use bench_tools::safe;
 
 // The house code, four sections, one channel value and one a-priori value other than 0.
 fn with_values(channel_value: i16, apriori_value: i16) -> usize {

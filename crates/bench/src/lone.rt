@@ -1,12 +1,12 @@
 // The lone decoder against the plain listing, over drawn tables of every size.
-use crate::draw;
-use crate::listing;
 use crate::outcomes;
 use crate::outcomes::Answer;
-use crate::reply;
-use crate::safe;
-use crate::tally;
-use crate::tally::Tally;
+use bench_tools::draw;
+use bench_tools::listing;
+use bench_tools::reply;
+use bench_tools::safe;
+use bench_tools::tally;
+use bench_tools::tally::Tally;
 ghost use Prim.Native.Nat.{_≤_};
 
 // The length of the channel list: outputs times sections.

@@ -1,18 +1,11 @@
 // The bench program: the cases of document 01 about the lone decoder and the coder that are not marked P, document 001's Table 2, margins, marks and
 // extrinsics against a plain listing of paths, and frames and refusals against a plain coder. It prints how many cases of each kind agreed.
-mod coder_calls;
 mod coder_limits;
-mod draw;
 mod encoder;
 mod limits;
-mod listing;
 mod lone;
 mod outcomes;
 mod plain_coder;
-mod plain_refusal;
-mod reply;
-mod safe;
-mod tally;
 
 fn main() {
     limits::run();

@@ -1,8 +1,9 @@
 // A call of the lone decoder against the plain listing: what its lists say of each position, and the tally of all calls.
-use crate::listing::Best;
-use crate::safe;
-use crate::tally;
-use crate::tally::Tally;
+use bench_tools::listing::Best;
+use bench_tools::plain_refusal;
+use bench_tools::safe;
+use bench_tools::tally;
+use bench_tools::tally::Tally;
 
 // What is counted: calls that agree, those of them with no path, free and forced positions, and what does not agree.
 pub const CALLS: usize = 0;
@@ -22,18 +23,6 @@ pub struct Answer {
     pub marks: [u8; 12],
     pub margins: [i32; 12],
     pub extrinsics: [i32; 12],
-}
-
-// Whether the words have their input bit as output 1.
-pub fn is_systematic(words: &[u8]) -> bool {
-    let mut i: usize = 0;
-    while i < words.len() {
-        if words[i] % 2 != (i % 2) as u8 {
-            return false;
-        }
-        i += 1;
-    }
-    true
 }
 
 // What a pass is told of a position.
@@ -119,7 +108,7 @@ pub fn checked(
         more,
         best,
         a,
-        is_systematic(words),
+        plain_refusal::is_systematic(words),
         outputs,
         sections,
         channel,

@@ -1,6 +1,7 @@
 // A plain coder, written apart from the receiver's: every state is found by walking the table from state 0, and a tail by trying each list of
 // inputs. It refuses nothing; what it cannot read is 0. It has room for K + T up to 20 and a frame of 64.
-use crate::safe;
+use bench_tools::frames;
+use bench_tools::safe;
 
 // One coder: its inputs, of which the first `bits` are the message's and the others, up to `end`, its tail; and whether that tail leads back.
 pub struct Coder {
@@ -111,14 +112,6 @@ fn position(f: Frame, mask: u8, systematic: u8, parity1: u8, parity2: u8) -> Fra
     put(f2, mask % 2 == 1, parity2)
 }
 
-// The mask at k: the masks repeat.
-fn mask_at(masks: &[u8], k: usize) -> u8 {
-    if masks.len() == 0 {
-        return 0;
-    }
-    safe::byte(masks, k % masks.len())
-}
-
 // The frame's positions.
 fn positions(one: Coder, two: Coder, next: &[u8], words: &[u8], masks: &[u8]) -> Frame {
     let mut f = Frame {
@@ -130,7 +123,7 @@ fn positions(one: Coder, two: Coder, next: &[u8], words: &[u8], masks: &[u8]) ->
         let x = one.inputs[k % 20];
         let p = parity(one, next, words, k);
         let q = parity(two, next, words, k);
-        let more = position(f, mask_at(masks, k), x, p, q);
+        let more = position(f, frames::mask_at(masks, k), x, p, q);
         f = more;
         k += 1;
     }
