@@ -1,7 +1,6 @@
--- The bench cases of document 01 that are marked P, in one list, and the theorem that the definitions give each its answer.
+-- The bench cases of document 01 that are marked P, in one list, each with its answer; and the answer that the definitions give.
 -- Assumes nothing.
-use mathlib.Core.Path.{_≡_, refl}
-use mathlib.Core.List.{List, [], _∷_, map, getLastD}
+use mathlib.Core.List.{List, [], _∷_, getLastD}
 use mathlib.Core.Option.{Option·getD, Option·elim, bind, orElse}
 use Prim.Native.Nat.{ℕ}
 use lib.Count.{ones}
@@ -75,30 +74,30 @@ computed (frameSize f n) = frameSize f (Frame.frameLength f)
 -- ---- what the cases share
 
 -- lists as they are lent, and as a refusal leaves them
-untouched : ℕ → List ℤ → Lone.Lent
+unfoldable pub untouched : ℕ → List ℤ → Lone.Lent
 untouched n work = record { marks = replicate n 77; margins = replicate n (pos 77); extrinsics = replicate n (pos 77); work = work }
 
-zeros : ℕ → List ℤ
+unfoldable pub zeros : ℕ → List ℤ
 zeros n = replicate n (pos 0)
 
 -- P3, P4: two states, next state = input, one output = input
-follower : Table
+unfoldable pub follower : Table
 follower = record { states = 2; outputs = 1; next = 0 ∷ 1 ∷ 0 ∷ 1 ∷ []; words = 0 ∷ 1 ∷ 0 ∷ 1 ∷ [] }
 
 -- P5: both branches of both states to state 1
-trap : Table
+unfoldable pub trap : Table
 trap = record { states = 2; outputs = 1; next = 1 ∷ 1 ∷ 1 ∷ 1 ∷ []; words = 0 ∷ 1 ∷ 0 ∷ 1 ∷ [] }
 
 -- a frame of the house code in message order
-plainFrame : ℕ → ℕ → List ℕ → List ℕ → Frame
+unfoldable pub plainFrame : ℕ → ℕ → List ℕ → List ℕ → Frame
 plainFrame k t pattern masks = record { table = house; bits = k; tail = t; pattern = pattern; masks = masks }
 
-lentTo : ℕ → List ℤ → Decoder.DecodeLent
+unfoldable pub lentTo : ℕ → List ℤ → Decoder.DecodeLent
 lentTo k work = record { bits = replicate k 77; margins = replicate k (pos 77); extrinsics = replicate k (pos 77); work = work }
 
 -- ---- the cases
 
-pub cases : List Case
+unfoldable pub cases : List Case
 cases =
     -- P1
     lonePass
@@ -165,7 +164,3 @@ cases =
     (lentTo 3 (replicate 24 (pos 77)))
     (record { reply = Refused Lists; lists = lentTo 3 (replicate 24 (pos 77)) })
     ∷ []
-
-pub cases-hold : map computed cases ≡ cases
-unfolding computed cases untouched zeros follower trap plainFrame lentTo
-cases-hold = refl
