@@ -24,9 +24,9 @@ use Rattle.frame.specs.Frame
 use Rattle.frame.specs.Frame.{Frame}
 use Rattle.coder.specs.Coder
 use Rattle.decoder.specs.Decoder
-use Rattle.sheet.specs.Text
-use Rattle.sheet.specs.Text.{bytes}
-use Rattle.sheet.specs.Decimal
+use Rattle.text.specs.Text
+use Rattle.text.specs.Text.{bytes}
+use Rattle.text.specs.Decimal
 use Rattle.sheet.specs.Rows
 use Rattle.sheet.specs.Sheet
 

@@ -7,8 +7,8 @@ use Prim.Native.Nat.{ℕ}
 use lib.Dec.{eqb}
 use lib.IntN.{ℤ}
 use lib.ListN.{length, getD}
-use Rattle.sheet.specs.Text.{bytes, space, cut, same}
-use Rattle.sheet.specs.Decimal.{natural, integer}
+use Rattle.text.specs.Text.{bytes, space, cut, same}
+use Rattle.text.specs.Decimal.{natural, integer}
 
 -- a message row: `to` is pattern(at), and the other three are values or unsent
 pub record MessageRow : Type 0 where

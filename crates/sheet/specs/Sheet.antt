@@ -8,6 +8,8 @@ use lib.Dec.{leb, ltb}
 use lib.IntN.{ℤ, pos}
 use lib.ListN.{length, getD, replicate}
 use Rattle.lists.specs.Lists.{listed, joined, isEmpty, found}
+use Rattle.text.specs.Text.{bytes, lineFeed, cut, same}
+use Rattle.text.specs.Decimal.{digits, decimal}
 use Rattle.refusal.specs.declared.Refusal.{Refusal}
 use Rattle.refusal.specs.declared.Refusal.the-variants.{Text}
 use Rattle.refusal.specs.declared.Reply.{Reply}
@@ -15,8 +17,6 @@ use Rattle.refusal.specs.declared.Reply.the-variants.{Done, Refused}
 use Rattle.refusal.specs.Refusals.{told, check, _then_}
 use Rattle.house.specs.House.{house}
 use Rattle.decoder.specs.Decoder.{DecodeCall, DecodeLent, decode}
-use Rattle.sheet.specs.Text.{bytes, lineFeed, cut, same}
-use Rattle.sheet.specs.Decimal.{digits, decimal}
 use Rattle.sheet.specs.Rows.{MessageRow, TailRow, messageRow, tailRow}
 
 -- ---- lines and rows

@@ -8,20 +8,24 @@ use lib.Dec.{eqb, leb, ltb}
 use lib.IntN.{ℤ, pos, negsuc}
 use lib.ListN.{length, getD}
 use Rattle.lists.specs.Lists.{every}
-use Rattle.sheet.specs.Text.{minus}
+use Rattle.text.specs.Text.{minus}
 
 -- ---- read
 
-abbrev isDigit : ℕ → Bool
+abbrev pub isDigit : ℕ → Bool
 isDigit b = leb 48 b && leb b 57
 
 -- one to five digits, the first of several not 0
 unfoldable pub numeral : List ℕ → Bool
 numeral ds = leb 1 (length ds) && leb (length ds) 5 && every isDigit ds && (eqb (length ds) 1 || not (eqb (getD ds 0 0) 48))
 
+-- the number that digits write
+abbrev pub valueOf : List ℕ → ℕ
+valueOf ds = foldl (λ n d. 10 * n + (d - 48)) 0 ds
+
 -- a number with no minus sign, as `at` and `to` have it
 unfoldable pub natural : List ℕ → Option ℕ
-natural ds = cond (numeral ds) (some (foldl (λ n d. 10 * n + (d - 48)) 0 ds)) none
+natural ds = cond (numeral ds) (some (valueOf ds)) none
 
 -- a number's opposite, where it is not 0
 unfoldable pub opposite : ℕ → Option ℤ

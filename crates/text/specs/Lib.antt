@@ -1,0 +1,4 @@
+pub mod Text
+pub mod Decimal
+pub mod Lent
+pub mod laws

@@ -1,0 +1,4 @@
+pub mod Comparing
+pub mod Cutting
+pub mod Reading
+pub mod Printing
