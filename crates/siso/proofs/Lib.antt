@@ -1,6 +1,7 @@
 pub mod Branch
 pub mod Rows
 pub mod Steps
+pub mod Words
 pub mod Working
 pub mod ForwardRows
 pub mod Places

@@ -3,10 +3,11 @@
 use mathlib.Core.Path.{_≡_, refl, sym, ap, _∙_}
 use mathlib.Core.Bool.{Bool, true, false, cond}
 use mathlib.Core.List.{List}
-use mathlib.Core.Option.{none}
+use mathlib.Core.Option.{Option, none}
 use Prim.Native.Nat.{ℕ, zero, suc, _+_, _<_}
 use native.Mathlib.Omega.{arith}
 use lib.Dec.{eqb}
+use lib.IntN.{ℤ}
 use lib.ListN.{length, getD, set, replicate}
 use lib.Seq.{getD-set-same, getD-set-other}
 use borrow.Author.Count.{below-more}
@@ -37,10 +38,10 @@ one-more h {f} xs t x d inside before here =
 
 -- the larger of what state t has and of what it is offered, written there
 pub offered :
-    (m : List Metric) (t : ℕ) (x y : Metric) → t < length m → there y ≡ larger (row m t) (there x)
-    → (s : ℕ) → row (set m t y) s ≡ larger (row m s) (cond (eqb s t) (there x) none)
+    (m : List Metric) (t : ℕ) (x : Option ℤ) (y : Metric) → t < length m → there y ≡ larger (row m t) x
+    → (s : ℕ) → row (set m t y) s ≡ larger (row m s) (cond (eqb s t) x none)
 offered m t x y inside e s = go (eqb s t) refl
   where
-    go : (c : Bool) → eqb s t ≡ c → row (set m t y) s ≡ larger (row m s) (cond c (there x) none)
+    go : (c : Bool) → eqb s t ≡ c → row (set m t y) s ≡ larger (row m s) (cond c x none)
     go true q = let i : s ≡ t = eqb-true s t q in rw (i, getD-set-same m t y Unreached inside) e
     go false q = ap there (getD-set-other m t s y Unreached (eqb-false s t q)) ∙ sym (larger-none (row m s))

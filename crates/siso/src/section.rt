@@ -1,18 +1,16 @@
 // One section: the metrics of its words, and the steps over it forwards and backwards.
-ghost use mathlib.Core.Bool.{cond};
-ghost use mathlib.Core.Option.{none, some};
+ghost use mathlib.Core.List.{[], _∷_};
+ghost use mathlib.Core.Option.{some};
 ghost use mathlib.Core.Path.{_≡_};
-ghost use Prim.Native.Nat.{ℕ, _+_, _*_, _≤_, _<_};
-ghost use lib.Dec.{eqb};
+ghost use Prim.Native.Nat.{ℕ, _≤_, _<_};
 ghost use lib.IntN.{pos, _+ℤ_};
 ghost use lib.ListN.{length, getD};
 ghost use Rattle.integers.specs.laws.Bounds.{Within};
 ghost use Rattle.trellis.specs.Table.{output as outputOf};
 ghost use Rattle.trellis.specs.Path.{signed as signedBy, wordMetric};
-ghost use Rattle.trellis.specs.Outcome.{larger as greater};
 ghost use Rattle.trellis.specs.laws.MaxPlus.{plus as sum};
 ghost use Rattle.trellis.specs.laws.Sizes.{Small};
-ghost use Rattle.trellis.specs.laws.Sweeps.{arriving, advance, departing, retreat};
+ghost use Rattle.trellis.specs.laws.Sweeps.{advance, retreat};
 ghost use Rattle.siso.specs.laws.Held.{there, row, targetOf, branchMetricOf, bestOf, Branches, BranchMetrics, Held};
 use crate::metric::Metric;
 use crate::metric::join;
@@ -40,20 +38,39 @@ fn signed(bit: usize, x: i32) -> i32
     if bit == 0 { 0 - x } else { x }
 }
 
-// The metrics of all sixteen words with output l's part added.
-fn with_output(g: [i32; 16], l: usize, y: i32) -> [i32; 16]
+// A word's part with that of its output l.
+fn with_output(g: i32, word: usize, l: usize, y: i32) -> i32
     requires { ⌜ l < 4 ⌝ }
+    requires { ⌜ Within 3069 g ⌝ }
     requires { ⌜ Within 1023 y ⌝ }
-    requires { ⌜ ((w : ℕ) → w < 16 → Within 3069 (getD g w (pos 0))) ⌝ }
-    ensures { λ r. ⌜ ((w : ℕ) → w < 16 → getD r w (pos 0) ≡ getD g w (pos 0) +ℤ signedBy (outputOf w l) y) ⌝ }
+    ensures { λ r. ⌜ r ≡ g +ℤ signedBy (outputOf word l) y ⌝ }
 {
-    let mut out = g;
-    let mut w: usize = 0;
-    while w < 16 {
-        out[w] = g[w] + signed(output(w, l), y);
-        w += 1;
+    g + signed(output(word, l), y)
+}
+
+// A word's part in the metric of a section with four channel values.
+fn word_metric(word: usize, y0: i32, y1: i32, y2: i32, y3: i32) -> i32
+    requires { ⌜ Within 1023 y0 ⌝ }
+    requires { ⌜ Within 1023 y1 ⌝ }
+    requires { ⌜ Within 1023 y2 ⌝ }
+    requires { ⌜ Within 1023 y3 ⌝ }
+    ensures { λ r. ⌜ r ≡ wordMetric (λ l. getD (y0 ∷ y1 ∷ y2 ∷ y3 ∷ []) l (pos 0)) word 4 ⌝ }
+{
+    let one = with_output(0, word, 0, y0);
+    let two = with_output(one, word, 1, y1);
+    let three = with_output(two, word, 2, y2);
+    with_output(three, word, 3, y3)
+}
+
+// Channel value l of a section; 0 counts for an output that is not there.
+fn value(channel: &[i16], l: usize) -> i32
+    ensures { λ r. ⌜ r ≡ getD (now (channel .entry)) l (pos 0) ⌝ }
+{
+    if l < channel.len() {
+        channel[l] as i32
+    } else {
+        0
     }
-    out
 }
 
 // The part of each word in the metric of a section, from the section's channel values.
@@ -65,83 +82,27 @@ pub fn word_metrics(channel: &[i16]) -> [i32; 16]
         → getD r w (pos 0)
         ≡ wordMetric (λ l. getD (now (channel .entry)) l (pos 0)) w (length (now (channel .entry)))) ⌝ }
 {
+    let y0 = value(channel, 0);
+    let y1 = value(channel, 1);
+    let y2 = value(channel, 2);
+    let y3 = value(channel, 3);
     let mut g = [0; 16];
-    let mut l: usize = 0;
-    while l < channel.len() {
-        let more = with_output(g, l, channel[l] as i32);
-        g = more;
-        l += 1;
+    let mut w: usize = 0;
+    while w < 16 {
+        g[w] = word_metric(w, y0, y1, y2, y3);
+        w += 1;
     }
     g
 }
 
-// The state that the branch of state s and bit b leads to.
-fn target(next: &[u8], s: usize, b: usize) -> usize
-    requires { ⌜ 2 * s + b < length (now next) ⌝ }
-    ensures { λ r. ⌜ r ≡ targetOf (now (next .entry)) s b ⌝ }
-{
-    next[2 * s + b] as usize
-}
-
-// The metric of the branch of state s and bit b: the word's part, and sign × a-priori value.
-fn branch_metric(words: &[u8], g: [i32; 16], a: i32, s: usize, b: usize) -> i32
-    requires { ⌜ 2 * s + b < length (now words) ⌝ }
-    requires { ⌜ getD (now words) (2 * s + b) 0 < 16 ⌝ }
-    requires { ⌜ BranchMetrics g a ⌝ }
-    ensures { λ r. ⌜ r ≡ branchMetricOf (now (words .entry)) g a s b ⌝ }
-{
-    let w = words[2 * s + b] as usize;
-    signed(b, a) + g[w]
-}
-
-// A metric, if it is there, with that of the branch of state s and bit b.
-fn along(words: &[u8], g: [i32; 16], a: i32, s: usize, b: usize, x: Metric) -> Metric
+// A metric, if it is there, with that of a branch of bit b: sign × a-priori value, and the part g of the branch's word.
+fn along(x: Metric, g: i32, a: i32, b: usize) -> Metric
     requires { ⌜ Small 100000000 (there x) ⌝ }
-    requires { ⌜ 2 * s + b < length (now words) ⌝ }
-    requires { ⌜ getD (now words) (2 * s + b) 0 < 16 ⌝ }
-    requires { ⌜ BranchMetrics g a ⌝ }
-    ensures { λ r. ⌜ there r ≡ sum (there x) (some (branchMetricOf (now (words .entry)) g a s b)) ⌝ }
+    requires { ⌜ Within 4092 g ⌝ }
+    requires { ⌜ Within 8191 a ⌝ }
+    ensures { λ r. ⌜ there r ≡ sum (there x) (some (signedBy b a +ℤ g)) ⌝ }
 {
-    plus(x, branch_metric(words, g, a, s, b))
-}
-
-// The metrics with one more offered to a state.
-fn offer(m: [Metric; 16], to: usize, x: Metric) -> [Metric; 16]
-    requires { ⌜ to < 16 ⌝ }
-    ensures { λ r. ⌜ ((s : ℕ) → row r s ≡ greater (row m s) (cond (eqb s to) (there x) none)) ⌝ }
-{
-    let mut out = m;
-    let had = out[to];
-    out[to] = larger(had, x);
-    out
-}
-
-// The metrics gathered so far, with what the branch of state s and bit b brings from m, the metrics before the section.
-fn arrive(
-    next: &[u8],
-    words: &[u8],
-    states: usize,
-    g: [i32; 16],
-    a: i32,
-    m: [Metric; 16],
-    s: usize,
-    b: usize,
-    out: [Metric; 16],
-) -> [Metric; 16]
-    requires { ⌜ Branches states (now next) (now words) ⌝ }
-    requires { ⌜ BranchMetrics g a ⌝ }
-    requires { ⌜ Held states m ⌝ }
-    requires { ⌜ s < states ⌝ }
-    requires { ⌜ b < 2 ⌝ }
-    ensures { λ r. ⌜
-        ((t : ℕ)
-        → row r t
-        ≡ greater (row out t)
-        (arriving (targetOf (now (next .entry))) (branchMetricOf (now (words .entry)) g a) (row m) t s b)) ⌝ }
-{
-    let x = m[s];
-    let to = target(next, s, b);
-    offer(out, to, along(words, g, a, s, b, x))
+    plus(x, signed(b, a) + g)
 }
 
 // The metrics after a section, from those before it.
@@ -162,39 +123,16 @@ pub fn forwards(
         ≡ advance (targetOf (now (next .entry))) (branchMetricOf (now (words .entry)) g a) states (row m) s) ⌝ }
 {
     let mut out = [Metric::Unreached; 16];
-    let mut s: usize = 0;
-    while s < states {
-        let zero = arrive(next, words, states, g, a, m, s, 0, out);
-        let both = arrive(next, words, states, g, a, m, s, 1, zero);
-        out = both;
-        s += 1;
+    let mut i: usize = 0;
+    while i < 2 * states {
+        let x = m[i / 2];
+        let to = next[i] as usize;
+        let w = words[i] as usize;
+        let had = out[to];
+        out[to] = larger(had, along(x, g[w], a, i % 2));
+        i += 1;
     }
     out
-}
-
-// The metric of going on from state s with bit b, where m has the metrics after the section.
-fn onward(
-    next: &[u8],
-    words: &[u8],
-    states: usize,
-    g: [i32; 16],
-    a: i32,
-    m: [Metric; 16],
-    s: usize,
-    b: usize,
-) -> Metric
-    requires { ⌜ Branches states (now next) (now words) ⌝ }
-    requires { ⌜ BranchMetrics g a ⌝ }
-    requires { ⌜ Held states m ⌝ }
-    requires { ⌜ s < states ⌝ }
-    requires { ⌜ b < 2 ⌝ }
-    ensures { λ r. ⌜
-        there r
-        ≡ departing (targetOf (now (next .entry))) (branchMetricOf (now (words .entry)) g a) (row m) s b ⌝ }
-{
-    let to = target(next, s, b);
-    let x = m[to];
-    along(words, g, a, s, b, x)
 }
 
 // The metrics before a section, from those after it.
@@ -217,10 +155,14 @@ pub fn backwards(
     let mut out = [Metric::Unreached; 16];
     let mut s: usize = 0;
     while s < states {
-        out[s] = larger(
-            onward(next, words, states, g, a, m, s, 0),
-            onward(next, words, states, g, a, m, s, 1),
-        );
+        let i = 2 * s;
+        let t0 = next[i] as usize;
+        let w0 = words[i] as usize;
+        let x0 = m[t0];
+        let t1 = next[i + 1] as usize;
+        let w1 = words[i + 1] as usize;
+        let x1 = m[t1];
+        out[s] = larger(along(x0, g[w0], a, 0), along(x1, g[w1], a, 1));
         s += 1;
     }
     out
@@ -248,7 +190,11 @@ pub fn best(
     let mut s: usize = 0;
     while s < states {
         let x = f[s];
-        let more = larger(top, join(x, onward(next, words, states, g, a, m, s, b)));
+        let i = 2 * s + b;
+        let to = next[i] as usize;
+        let w = words[i] as usize;
+        let y = m[to];
+        let more = larger(top, join(x, along(y, g[w], a, b)));
         top = more;
         s += 1;
     }

@@ -1,37 +1,52 @@
 -- `section::along` returns the sum of a metric, if it is there, and of a branch's metric: both are small.
 -- Assumes nothing.
-use mathlib.Core.Path.{_≡_, _∙_}
 use native.Mathlib.Omega.{arith}
+use mathlib.Core.Path.{_≡_, ap, _∙_}
+use lib.IntN.{ℤ, _+ℤ_}
 use mir.Facts.{toZ-ofZ}
 use mir.Syntax.{w32}
-use mir.Val.{toZ, ofZ}
-use Rattle.integers.specs.laws.Laws.{within-more}
-use Rattle.integers.specs.laws.Linear.{plain, fits-of}
-use Rattle.siso.specs.laws.Held.{branchMetricOf}
-use Rattle.siso.proofs.Branch.{branch-metric-within}
+use mir.Val.{SFits, toZ, ofZ}
+use Rattle.integers.specs.laws.Bounds.{Within}
+use Rattle.integers.specs.laws.Laws.{within-more, within-sum}
+use Rattle.integers.specs.laws.Linear.{ints, plain}
+use Rattle.trellis.specs.Path.{signed}
+use Rattle.trellis.specs.laws.Signs.{signed-within}
 use Rattle.siso.proofs.section.along.Statement.{statement}
 use Rattle.siso.proofs.section.along.Tie as tie
 
-branch-metric-requires : tie.Need-branch-metric-requires
-branch-metric-requires c κs = let a-fits = c .before .fits .a in simp plain (c .before .pre .1)
+signed-requires : tie.Need-signed-requires
+signed-requires c κs = let a-fits = c .fits .a in simp plain (c .pre .1 .1)
 
--- the branch's metric, as it is read back
-branch-metric-is :
-    (c : tie.After-branch-metric)
-    → let start = c .before .before in
-    toZ w32 (ofZ w32 (c .branch-metric .result)) ≡ branchMetricOf (start .args .words .now) (start .args .g) (start .args .a) (start .args .s) (start .args .b)
-branch-metric-is c =
-    let a-fits = c .before .before .fits .a in
-    toZ-ofZ (fits-of (c .branch-metric .ok)) ∙ simp plain at (c .branch-metric .ensures)
+within-fits : (z : ℤ) → Within 12283 z → SFits w32 z
+within-fits z = simp ints (omega arith)
+
+-- the branch's metric, as it is computed
+module _ (c : tie.After-signed) where
+  abbrev start : tie.Start
+  start = c .before
+
+  abbrev gained : ℤ
+  gained = signed (start .args .b) (start .args .a) +ℤ start .args .g
+
+  sum-is : toZ w32 (ofZ w32 (c .signed .result)) +ℤ toZ w32 (ofZ w32 (start .args .g)) ≡ gained
+  sum-is =
+      let a-fits = start .fits .a in
+      let g-fits = start .fits .g in
+      let signed-fits = c .signed .ok in
+      simp plain (ap (λ z. z +ℤ start .args .g) (simp plain at (c .signed .ensures)))
+
+  small : Within 12283 gained
+  small = within-sum (signed-within (start .args .b) (start .pre .1 .1)) (start .pre .1 .0)
+
+add-plus : tie.Need-add-plus
+add-plus c = rw (sum-is c) (within-fits _ (small c))
 
 plus-requires : tie.Need-plus-requires
 plus-requires c κs =
-    let args = c .before .before .args in
-    let (small, (inside, (short, branch-metrics))) = c .before .before .pre in
-    (small, rw (branch-metric-is c) (within-more (omega arith) (branch-metric-within (args .words .now) _ _ (args .s) _ short branch-metrics)))
+    (start c .pre .0, rw (toZ-ofZ (add-plus c), sum-is c) (within-more (omega arith) (small c)))
 
 returns : tie.Need-returns
-returns c = c .plus .ensures ∙ rw (branch-metric-is (c .before))
+returns c = c .plus .ensures ∙ rw (toZ-ofZ (add-plus (c .before)), sum-is (c .before))
 
 pub along-spec : {M : Type 1} → statement M
-along-spec = tie.close (tie.spec branch-metric-requires plus-requires returns)
+along-spec = tie.close (tie.spec signed-requires add-plus plus-requires returns)
