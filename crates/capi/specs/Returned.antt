@@ -1,0 +1,35 @@
+-- What a program in another language gets back from a call: the reply's number, 0 where the call is done, and the lists that it lent.
+-- Assumes nothing.
+use mathlib.Core.List.{List}
+use Prim.Native.Nat.{ℕ}
+use lib.Dec.{eqb}
+use lib.ListN.{length}
+use Rattle.refusal.specs.declared.Refusal.the-variants.{Lists}
+use Rattle.refusal.specs.declared.Reply.{Reply}
+use Rattle.refusal.specs.Refusals.{numberOf, check, after}
+use Rattle.siso.specs.Decode.{Lent, Result}
+use Rattle.coder.specs.Coder.{EncodeResult}
+use Rattle.decoder.specs.Decoder.{DecodeLent, DecodeResult}
+
+pub record Returned (A : Type 0) : Type 0 where
+  pub number : ℕ
+  pub lists : A
+
+abbrev pub returned : {A : Type 0} → ℕ → A → Returned A
+returned n lists = record { number = n; lists = lists }
+
+-- the results of the lone decoder, the coder and the frame decoder, each with its reply told as a number
+abbrev pub loneReturned : Result → Returned Lent
+loneReturned x = returned (numberOf (x .reply)) (x .lists)
+
+abbrev pub encodeReturned : EncodeResult → Returned (List ℕ)
+encodeReturned x = returned (numberOf (x .reply)) (x .sent)
+
+abbrev pub decodeReturned : DecodeResult → Returned DecodeLent
+decodeReturned x = returned (numberOf (x .reply)) (x .lists)
+
+-- entries written to a list: 5 where it is not as long, and then it is as it was
+unfoldable pub written : List ℕ → List ℕ → Returned (List ℕ)
+written entries list =
+    let r = check (eqb (length list) (length entries)) Lists in
+    returned (numberOf r) (after r entries list)

@@ -1,0 +1,192 @@
+// The receiver for programs in other languages: a list is a pointer and a length, and the reply is its number. include/turbo.h declares these.
+ghost use mathlib.Core.Path.{_≡_};
+ghost use Rattle.refusal.specs.Refusals.{told, numberOf};
+ghost use Rattle.house.specs.House.{house};
+ghost use Rattle.siso.specs.Decode.{decode as loneDecoded};
+ghost use Rattle.siso.specs.Lent.{callOf as loneCallOf, lentOf as loneLentOf};
+ghost use Rattle.coder.specs.Coder.{encode as encoded};
+ghost use Rattle.coder.specs.Lent.{encodeOf};
+ghost use Rattle.decoder.specs.Decoder.{decode as decoded};
+ghost use Rattle.decoder.specs.Lent.{callOf, lentOf};
+ghost use Rattle.capi.specs.Returned.{returned, loneReturned, encodeReturned, decodeReturned, written};
+use refusal::Refusal;
+use refusal::Reply;
+
+fn number_of_refusal(why: Refusal) -> u32
+    ensures { λ r. ⌜ r ≡ told why .number ⌝ }
+{
+    match why {
+        Refusal::Text(_) => 1,
+        Refusal::Shape => 2,
+        Refusal::Branch => 3,
+        Refusal::Length => 4,
+        Refusal::Lists => 5,
+        Refusal::Value => 6,
+        Refusal::Bit => 7,
+        Refusal::Pattern => 8,
+        Refusal::Mask => 9,
+        Refusal::Iterations => 10,
+        Refusal::Coder => 11,
+        Refusal::NoPath => 12,
+        Refusal::ForcedPosition => 13,
+        Refusal::NoTail => 14,
+    }
+}
+
+// 0 stands for done.
+fn number_of(reply: Reply) -> u32
+    ensures { λ r. ⌜ r ≡ numberOf reply ⌝ }
+{
+    match reply {
+        Reply::Done => 0,
+        Reply::Refused(why) => number_of_refusal(why),
+    }
+}
+
+// The lone decoder.
+#[no_mangle]
+pub extern "C" fn turbo_lone_decode(
+    states: usize,
+    outputs: usize,
+    next: &[u8],
+    words: &[u8],
+    sections: usize,
+    channel: &[i16],
+    apriori: &[i16],
+    marks: &mut [u8],
+    margins: &mut [i32],
+    extrinsics: &mut [i32],
+    work: &mut [i32],
+) -> u32
+    ensures { λ r. ⌜
+        returned r (loneLentOf (now (marks .exit)) (now (margins .exit)) (now (extrinsics .exit)) (now (work .exit)))
+        ≡ loneReturned
+        (loneDecoded
+        (loneCallOf states outputs (now (next .entry)) (now (words .entry)) sections
+        (now (channel .entry)) (now (apriori .entry)))
+        (loneLentOf (now (marks .entry)) (now (margins .entry)) (now (extrinsics .entry)) (now (work .entry)))) ⌝ }
+{
+    number_of(siso::decode(
+        states,
+        outputs,
+        next,
+        words,
+        sections,
+        channel,
+        apriori,
+        marks,
+        margins,
+        extrinsics,
+        work,
+    ))
+}
+
+// The coder.
+#[no_mangle]
+pub extern "C" fn turbo_encode(
+    states: usize,
+    outputs: usize,
+    next: &[u8],
+    words: &[u8],
+    bits: usize,
+    tail: usize,
+    message: &[u8],
+    pattern: &[u32],
+    masks: &[u8],
+    sent: &mut [u8],
+) -> u32
+    ensures { λ r. ⌜
+        returned r (now (sent .exit))
+        ≡ encodeReturned
+        (encoded
+        (encodeOf states outputs (now (next .entry)) (now (words .entry)) bits tail
+        (now (message .entry)) (now (pattern .entry)) (now (masks .entry)))
+        (now (sent .entry))) ⌝ }
+{
+    number_of(turbo::encode(
+        states,
+        outputs,
+        next,
+        words,
+        bits,
+        tail,
+        message,
+        pattern,
+        masks,
+        sent,
+    ))
+}
+
+// The frame decoder.
+#[no_mangle]
+pub extern "C" fn turbo_decode(
+    states: usize,
+    outputs: usize,
+    next: &[u8],
+    words: &[u8],
+    k: usize,
+    t: usize,
+    pattern: &[u32],
+    masks: &[u8],
+    received: &[i16],
+    iterations: usize,
+    bits: &mut [u8],
+    margins: &mut [i32],
+    extrinsics: &mut [i32],
+    work: &mut [i32],
+) -> u32
+    ensures { λ r. ⌜
+        returned r (lentOf (now (bits .exit)) (now (margins .exit)) (now (extrinsics .exit)) (now (work .exit)))
+        ≡ decodeReturned
+        (decoded
+        (callOf states outputs (now (next .entry)) (now (words .entry)) k t (now (pattern .entry)) (now (masks .entry))
+        (now (received .entry)) iterations)
+        (lentOf (now (bits .entry)) (now (margins .entry)) (now (extrinsics .entry)) (now (work .entry)))) ⌝ }
+{
+    number_of(turbo::decode(
+        states,
+        outputs,
+        next,
+        words,
+        k,
+        t,
+        pattern,
+        masks,
+        received,
+        iterations,
+        bits,
+        margins,
+        extrinsics,
+        work,
+    ))
+}
+
+// Eight entries to a list of eight; any other list is refused and stays as it was.
+fn write(entries: [u8; 8], list: &mut [u8]) -> u32
+    ensures { λ r. ⌜ returned r (now (list .exit)) ≡ written entries (now (list .entry)) ⌝ }
+{
+    if list.len() != 8 {
+        return number_of_refusal(Refusal::Lists);
+    }
+    let mut i = 0;
+    while i < 8 {
+        list[i] = entries[i];
+        i += 1;
+    }
+    0
+}
+
+// The house code's next states and words, for the entries above.
+#[no_mangle]
+pub extern "C" fn turbo_house_next(list: &mut [u8]) -> u32
+    ensures { λ r. ⌜ returned r (now (list .exit)) ≡ written (house .next) (now (list .entry)) ⌝ }
+{
+    write(turbo::house_next(), list)
+}
+
+#[no_mangle]
+pub extern "C" fn turbo_house_words(list: &mut [u8]) -> u32
+    ensures { λ r. ⌜ returned r (now (list .exit)) ≡ written (house .words) (now (list .entry)) ⌝ }
+{
+    write(turbo::house_words(), list)
+}

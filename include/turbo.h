@@ -1,0 +1,145 @@
+/*
+ * turbo.h: the turbo frame receiver for C.
+ *
+ * Link with libcapi.a, which `rt staticlib capi` writes to target/staticlib. The functions behind these declarations are proved: for every call
+ * the number returned and all that is left in the lists are those that the definitions give (crates/capi/src/lib.rt). Nothing checks this file
+ * against that one, nor the rules below, which are the caller's part.
+ *
+ * Lists. A list is a pointer to its first entry, followed by its number of entries.
+ *   - The pointer is not NULL and is aligned for its entries, also where the list is empty.
+ *   - It has at least as many entries as told. A wrong number is refused only where it is not the number asked for below.
+ *   - A list that is written overlaps no other list of the call.
+ * The calls keep nothing and use no static data, so several threads may call at once, each with lists of its own.
+ *
+ * Table. S states (1..16) and n outputs (1..4). The branch of state s and input bit b stands at 2*s + b of `next` (the next state, below S) and
+ * of `words` (below 2^n; output l, counted from 1, is bit l-1). A table is systematic when output 1 of every branch is its input bit.
+ *
+ * Signs. A value above 0 speaks for bit 1. Channel values are -1023..1023, a-priori values -8191..8191.
+ */
+#ifndef TURBO_H
+#define TURBO_H
+
+#include <stddef.h>
+#include <stdint.h>
+
+#ifdef __cplusplus
+extern "C" {
+#endif
+
+/*
+ * The number that a call returns. Of the numbers that apply, the lowest is returned; each call tests only what it is lent.
+ *
+ * After every refusal the result lists are as they were. The working list is all zeros after TURBO_DONE, TURBO_NO_PATH and
+ * TURBO_FORCED_POSITION, and as it was after every other number.
+ */
+enum turbo_reply {
+    TURBO_DONE = 0,
+    TURBO_TEXT = 1,             /* the text of a sheet; none of the calls below returns it */
+    TURBO_SHAPE = 2,            /* states outside 1..16, outputs outside 1..4, or a table list without two entries a state */
+    TURBO_BRANCH = 3,           /* a next state not below the number of states, or a word not below 2^outputs */
+    TURBO_LENGTH = 4,           /* sections outside 1..4096; or bits 0, tail above 4, or bits + tail above 4096 */
+    TURBO_LISTS = 5,            /* another list without its exact number of entries; the frame's own only where TURBO_MASK does not apply */
+    TURBO_VALUE = 6,            /* a channel value outside -1023..1023, or an a-priori value outside -8191..8191 */
+    TURBO_BIT = 7,              /* a message bit other than 0 or 1 */
+    TURBO_PATTERN = 8,          /* the pattern has not each of 0..bits-1 exactly once */
+    TURBO_MASK = 9,             /* no mask, more than 16, or one above 7 */
+    TURBO_ITERATIONS = 10,      /* iterations outside 1..32 */
+    TURBO_CODER = 11,           /* the table of a frame is not systematic, or has not two outputs */
+    TURBO_NO_PATH = 12,         /* decoders: no path of that many sections leads from state 0 to state 0; more tail sections may help */
+    TURBO_FORCED_POSITION = 13, /* frame decoder: all paths have the same bit at some message position; more tail sections may help */
+    TURBO_NO_TAIL = 14          /* coder: no inputs of the tail lead a coder back to state 0; more tail sections may help */
+};
+
+/*
+ * The lone decoder: one pass over any table.
+ *
+ *   sections        N, 1..4096
+ *   channel         n*N values; output l of section k, counted from 0, at n*k + l-1
+ *   apriori         N values
+ *   marks           N entries written: 2 for a free position, else the bit to which it is forced
+ *   margins         N entries written: half of (best metric with bit 1 minus best with bit 0); 0 at a forced position
+ *   extrinsics      N entries written: margin minus a-priori, and minus the channel value of output 1 if the table is systematic; 0 at a
+ *                   forced position
+ *   work            (N+1)*S entries, for the decoder's own use; zero afterwards
+ *
+ * Returns 0, 2, 3, 4, 5, 6 or 12.
+ */
+uint32_t turbo_lone_decode(size_t states, size_t outputs,
+                           const uint8_t *next, size_t next_len,
+                           const uint8_t *words, size_t words_len,
+                           size_t sections,
+                           const int16_t *channel, size_t channel_len,
+                           const int16_t *apriori, size_t apriori_len,
+                           uint8_t *marks, size_t marks_len,
+                           int32_t *margins, size_t margins_len,
+                           int32_t *extrinsics, size_t extrinsics_len,
+                           int32_t *work, size_t work_len);
+
+/*
+ * A frame, for the two calls below.
+ *
+ *   states, outputs, next, words    a systematic table with two outputs
+ *   bits            K message bits, at least 1; K + T is at most 4096
+ *   tail            T tail sections of each coder, 0..4
+ *   pattern         K entries, each of 0..K-1 once: the second coder's input i is message bit pattern[i]
+ *   masks           1..16 entries, repeated over the K positions: 4 for the systematic bit, 2 for parity 1 and 1 for parity 2, added, say
+ *                   which are sent
+ *
+ * The frame's list has, position by position, what its mask sends, in the order systematic, parity 1, parity 2; then tail 1 and tail 2, each
+ * systematic then parity, section by section. Its length is the number of ones in the masks of the K positions, plus 4*T.
+ */
+
+/*
+ * The coder.
+ *
+ *   message         K entries, each 0 or 1
+ *   sent            the frame's list, written: a bit an entry
+ *
+ * Returns 0, 2, 3, 4, 5, 7, 8, 9, 11 or 14.
+ */
+uint32_t turbo_encode(size_t states, size_t outputs,
+                      const uint8_t *next, size_t next_len,
+                      const uint8_t *words, size_t words_len,
+                      size_t bits, size_t tail,
+                      const uint8_t *message, size_t message_len,
+                      const uint32_t *pattern, size_t pattern_len,
+                      const uint8_t *masks, size_t masks_len,
+                      uint8_t *sent, size_t sent_len);
+
+/*
+ * The frame decoder.
+ *
+ *   received        the frame's list as channel values; what was not sent counts as 0
+ *   iterations      1..32; each is a pass over the first coder, then one over the second
+ *   decided         K entries written: 1 where the margin is 0 or more, else 0
+ *   margins         K entries written, from the last pass, in message order
+ *   extrinsics      the same; not limited
+ *   work            (K+T+1)*S entries, for the decoder's own use; zero afterwards
+ *
+ * Returns 0, 2, 3, 4, 5, 6, 8, 9, 10, 11, 12 or 13. Whether it is 12 or 13 depends on the table, K and T alone, never on the values.
+ */
+uint32_t turbo_decode(size_t states, size_t outputs,
+                      const uint8_t *next, size_t next_len,
+                      const uint8_t *words, size_t words_len,
+                      size_t bits, size_t tail,
+                      const uint32_t *pattern, size_t pattern_len,
+                      const uint8_t *masks, size_t masks_len,
+                      const int16_t *received, size_t received_len,
+                      size_t iterations,
+                      uint8_t *decided, size_t decided_len,
+                      int32_t *margins, size_t margins_len,
+                      int32_t *extrinsics, size_t extrinsics_len,
+                      int32_t *work, size_t work_len);
+
+/*
+ * The house code's table: 4 states, 2 outputs. Each call writes 8 entries to a list of 8 and returns 0; a list of any other length is as it was,
+ * and 5 is returned.
+ */
+uint32_t turbo_house_next(uint8_t *list, size_t list_len);
+uint32_t turbo_house_words(uint8_t *list, size_t list_len);
+
+#ifdef __cplusplus
+}
+#endif
+
+#endif

@@ -1,0 +1,301 @@
+// One call of each entry: drawn from its seed, answered by both sides, compared in its number and in every list.
+use crate::draw::{self, Draw};
+use crate::lent::List;
+use plain::{clears_work, coder, frame_decoder, listing, lone};
+use turbo::raw;
+
+pub struct Answer {
+    pub number: u32,
+    pub differences: Vec<String>,
+}
+
+struct Differences(Vec<String>);
+
+impl Differences {
+    fn new(number: u32, asked: u32) -> Differences {
+        Differences(if number == asked { Vec::new() } else { vec![format!("number {number}, asked {asked}")] })
+    }
+
+    fn add(&mut self, checked: Result<(), String>) {
+        self.0.extend(checked.err());
+    }
+}
+
+// Half of the calls have no fault, most others one, and some two or three.
+fn faults(d: &mut Draw) -> usize {
+    match d.below(20) {
+        0..=9 => 0,
+        10..=16 => 1,
+        17 | 18 => 2,
+        _ => 3,
+    }
+}
+
+fn short(d: &mut Draw) -> usize {
+    match d.below(10) {
+        0..=5 => 12,
+        6..=8 => 64,
+        _ => 300,
+    }
+}
+
+fn work_after(number: u32, length: usize) -> Option<Vec<i32>> {
+    clears_work(number).then(|| vec![0; length])
+}
+
+pub fn lone_decode(d: &mut Draw, most: Option<usize>) -> Answer {
+    let (call, lent) = lone_call(d, most);
+    let asked = lone::decode(&call, lent);
+    let t = &call.table;
+
+    let next = List::of("next", d, &t.next);
+    let words = List::of("words", d, &t.words);
+    let channel = List::of("channel", d, &call.channel);
+    let apriori = List::of("apriori", d, &call.apriori);
+    let mut marks = List::any("marks", d, lent.marks);
+    let mut margins = List::any("margins", d, lent.margins);
+    let mut extrinsics = List::any("extrinsics", d, lent.extrinsics);
+    let mut work = List::any("work", d, lent.work);
+    let number = raw::lone_decode(
+        t.states,
+        t.outputs,
+        next.entries(),
+        words.entries(),
+        call.sections,
+        channel.entries(),
+        apriori.entries(),
+        marks.entries_mut(),
+        margins.entries_mut(),
+        extrinsics.entries_mut(),
+        work.entries_mut(),
+    );
+
+    let asked_number = asked.as_ref().err().copied().unwrap_or(0);
+    let results = asked.as_ref().ok();
+    let mut x = Differences::new(number, asked_number);
+    x.add(next.check(None));
+    x.add(words.check(None));
+    x.add(channel.check(None));
+    x.add(apriori.check(None));
+    x.add(marks.check(results.map(|l| &l.marks[..])));
+    x.add(margins.check(results.map(|l| &l.margins[..])));
+    x.add(extrinsics.check(results.map(|l| &l.extrinsics[..])));
+    x.add(work.check(work_after(asked_number, lent.work).as_deref()));
+    // the plain side's recursion against a listing of all paths
+    if (asked_number == 0 || asked_number == 12) && call.sections <= 10 {
+        let by_paths = listing::pass(t, call.sections, &call.channel, &call.apriori);
+        let by_recursion = lone::pass(t, call.sections, &call.channel, &call.apriori);
+        if by_paths != by_recursion {
+            x.0.push(format!("plain side: {by_recursion:?}, by its listing {by_paths:?}"));
+        }
+    }
+    Answer { number, differences: x.0 }
+}
+
+fn lone_call(d: &mut Draw, most: Option<usize>) -> (lone::Call, lone::Lent) {
+    let outputs = d.size(1, 4);
+    let systematic = d.chance(2);
+    let table = draw::table(d, outputs, systematic);
+    let outputs = table.outputs;
+    let sections = match most {
+        Some(most) => if d.chance(3) { most } else { d.size(1, most) },
+        None => {
+            let most = short(d);
+            d.size(1, most)
+        }
+    };
+    let channel = draw::values(d, outputs * sections, 1023);
+    let apriori = draw::values(d, sections, 8191);
+    let mut lent = lone::Lent { marks: sections, margins: sections, extrinsics: sections, work: (sections + 1) * table.states };
+    let mut call = lone::Call { table, sections, channel, apriori };
+    for _ in 0..faults(d) {
+        match d.below(12) {
+            0..=2 => draw::damage_table(d, &mut call.table),
+            3 => call.sections = d.of(&[0, 4097, 4098, sections + 1, sections - 1]),
+            4 => call.sections = d.of(&draw::WILD),
+            5 => {
+                let n = draw::off(d, call.channel.len());
+                call.channel.resize(n, 0);
+            }
+            6 => {
+                let n = draw::off(d, call.apriori.len());
+                call.apriori.resize(n, 0);
+            }
+            7 => draw::damage_value(d, &mut call.channel, 1023),
+            8 => draw::damage_value(d, &mut call.apriori, 8191),
+            9 => lent.marks = draw::off(d, lent.marks),
+            10 => {
+                let which = if d.chance(2) { &mut lent.margins } else { &mut lent.extrinsics };
+                *which = draw::off(d, *which);
+            }
+            _ => lent.work = draw::off(d, lent.work),
+        }
+    }
+    (call, lent)
+}
+
+pub fn encode(d: &mut Draw, most: Option<usize>) -> Answer {
+    let most = most.unwrap_or_else(|| short(d));
+    let frame = draw::frame(d, most);
+    let mut sent_len = frame.length();
+    let message = (0..frame.bits).map(|_| d.below(2) as u8).collect();
+    let mut call = coder::Call { frame, message };
+    for _ in 0..faults(d) {
+        match d.below(10) {
+            0 | 1 => draw::damage_table(d, &mut call.frame.table),
+            2..=6 => draw::damage_frame(d, &mut call.frame),
+            7 => {
+                let n = draw::off(d, call.message.len());
+                call.message.resize(n, 1);
+            }
+            8 if !call.message.is_empty() => {
+                let at = d.below(call.message.len());
+                call.message[at] = d.of(&[2, 3, 255]);
+            }
+            _ => sent_len = draw::off(d, sent_len),
+        }
+    }
+    let asked = coder::encode(&call, sent_len);
+    let (f, t) = (&call.frame, &call.frame.table);
+
+    let next = List::of("next", d, &t.next);
+    let words = List::of("words", d, &t.words);
+    let message = List::of("message", d, &call.message);
+    let pattern = List::of("pattern", d, &f.pattern);
+    let masks = List::of("masks", d, &f.masks);
+    let mut sent = List::any("sent", d, sent_len);
+    let number = raw::encode(
+        t.states,
+        t.outputs,
+        next.entries(),
+        words.entries(),
+        f.bits,
+        f.tail,
+        message.entries(),
+        pattern.entries(),
+        masks.entries(),
+        sent.entries_mut(),
+    );
+
+    let mut x = Differences::new(number, asked.as_ref().err().copied().unwrap_or(0));
+    x.add(next.check(None));
+    x.add(words.check(None));
+    x.add(message.check(None));
+    x.add(pattern.check(None));
+    x.add(masks.check(None));
+    x.add(sent.check(asked.as_deref().ok()));
+    Answer { number, differences: x.0 }
+}
+
+// Received values: any, or those of a coded message with noise, so that iterations have something to find.
+fn received(d: &mut Draw, frame: &plain::Frame) -> Vec<i16> {
+    let length = frame.length();
+    if d.chance(2) {
+        let message = (0..frame.bits).map(|_| d.below(2) as u8).collect();
+        if let Ok(sent) = coder::encode(&coder::Call { frame: frame.clone(), message }, length) {
+            let strength = d.of(&[1, 10, 100, 500]);
+            let noise = strength * d.within(0, 4) / 2;
+            return sent.iter().map(|&b| ((2 * b as i64 - 1) * strength + d.within(-noise, noise)).clamp(-1023, 1023) as i16).collect();
+        }
+    }
+    draw::values(d, length, 1023)
+}
+
+pub fn decode(d: &mut Draw, most: Option<usize>) -> Answer {
+    let iterations = if most.is_some() || d.chance(4) { d.size(1, 32) } else { d.size(1, 4) };
+    let frame = match most {
+        // In long frames K + T is often the most there may be.
+        Some(most) => {
+            let most = if d.chance(2) { most } else { d.size(1, most) };
+            let mut f = draw::frame(d, most);
+            if d.chance(2) {
+                f.bits = most - f.tail;
+                f.pattern = draw::permutation(d, f.bits);
+            }
+            f
+        }
+        None => {
+            let most = short(d);
+            draw::frame(d, most)
+        }
+    };
+    let k = frame.bits;
+    let received = received(d, &frame);
+    let mut lent = frame_decoder::Lent { bits: k, margins: k, extrinsics: k, work: (k + frame.tail + 1) * frame.table.states };
+    let mut call = frame_decoder::Call { frame, received, iterations };
+    for _ in 0..faults(d) {
+        match d.below(14) {
+            0 | 1 => draw::damage_table(d, &mut call.frame.table),
+            2..=6 => draw::damage_frame(d, &mut call.frame),
+            7 | 8 => {
+                let n = draw::off(d, call.received.len());
+                call.received.resize(n, 0);
+            }
+            9 => draw::damage_value(d, &mut call.received, 1023),
+            10 => call.iterations = d.of(&[0, 33, 34, 256, usize::MAX]),
+            11 => lent.bits = draw::off(d, lent.bits),
+            12 => {
+                let which = if d.chance(2) { &mut lent.margins } else { &mut lent.extrinsics };
+                *which = draw::off(d, *which);
+            }
+            _ => lent.work = draw::off(d, lent.work),
+        }
+    }
+    let asked = frame_decoder::decode(&call, lent);
+    let (f, t) = (&call.frame, &call.frame.table);
+
+    let next = List::of("next", d, &t.next);
+    let words = List::of("words", d, &t.words);
+    let pattern = List::of("pattern", d, &f.pattern);
+    let masks = List::of("masks", d, &f.masks);
+    let received = List::of("received", d, &call.received);
+    let mut bits = List::any("bits", d, lent.bits);
+    let mut margins = List::any("margins", d, lent.margins);
+    let mut extrinsics = List::any("extrinsics", d, lent.extrinsics);
+    let mut work = List::any("work", d, lent.work);
+    let number = raw::decode(
+        t.states,
+        t.outputs,
+        next.entries(),
+        words.entries(),
+        f.bits,
+        f.tail,
+        pattern.entries(),
+        masks.entries(),
+        received.entries(),
+        call.iterations,
+        bits.entries_mut(),
+        margins.entries_mut(),
+        extrinsics.entries_mut(),
+        work.entries_mut(),
+    );
+
+    let asked_number = asked.as_ref().err().copied().unwrap_or(0);
+    let results = asked.as_ref().ok();
+    let mut x = Differences::new(number, asked_number);
+    x.add(next.check(None));
+    x.add(words.check(None));
+    x.add(pattern.check(None));
+    x.add(masks.check(None));
+    x.add(received.check(None));
+    x.add(bits.check(results.map(|l| &l.bits[..])));
+    x.add(margins.check(results.map(|l| &l.margins[..])));
+    x.add(extrinsics.check(results.map(|l| &l.extrinsics[..])));
+    x.add(work.check(work_after(asked_number, lent.work).as_deref()));
+    Answer { number, differences: x.0 }
+}
+
+// Both lists of the house code, at every length up to 20: one of the calls' index.
+pub fn house(d: &mut Draw, length: usize) -> Answer {
+    let table = plain::house::table();
+    let mut next = List::any("next", d, length);
+    let mut words = List::any("words", d, length);
+    let number = raw::house_next(next.entries_mut());
+    let other = raw::house_words(words.entries_mut());
+    let asked = if length == 8 { 0 } else { 5 };
+    let mut x = Differences::new(number, asked);
+    x.0.extend(Differences::new(other, asked).0);
+    x.add(next.check((asked == 0).then_some(&table.next[..])));
+    x.add(words.check((asked == 0).then_some(&table.words[..])));
+    Answer { number, differences: x.0 }
+}

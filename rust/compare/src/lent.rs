@@ -1,0 +1,58 @@
+// Lists lent to the library, each inside a larger buffer: what stands beside it must stay as it was, and so must a list that is only read.
+use crate::draw::Draw;
+
+const BESIDE: usize = 9;
+
+pub trait Entry: Copy + PartialEq + std::fmt::Debug {
+    fn drawn(d: &mut Draw) -> Self;
+}
+
+macro_rules! entry {
+    ($($t:ty)*) => { $(impl Entry for $t { fn drawn(d: &mut Draw) -> $t { d.next() as $t } })* };
+}
+entry!(u8 i16 u32 i32);
+
+pub struct List<T> {
+    name: &'static str,
+    now: Vec<T>,
+    before: Vec<T>,
+}
+
+impl<T: Entry> List<T> {
+    // A list of the given entries.
+    pub fn of(name: &'static str, d: &mut Draw, entries: &[T]) -> List<T> {
+        let mut now: Vec<T> = (0..entries.len() + 2 * BESIDE).map(|_| T::drawn(d)).collect();
+        now[BESIDE..BESIDE + entries.len()].copy_from_slice(entries);
+        List { name, before: now.clone(), now }
+    }
+
+    // A list to write to: what is in it means nothing.
+    pub fn any(name: &'static str, d: &mut Draw, length: usize) -> List<T> {
+        let entries: Vec<T> = (0..length).map(|_| T::drawn(d)).collect();
+        List::of(name, d, &entries)
+    }
+
+    pub fn entries(&self) -> &[T] {
+        &self.now[BESIDE..self.now.len() - BESIDE]
+    }
+
+    pub fn entries_mut(&mut self) -> &mut [T] {
+        let end = self.now.len() - BESIDE;
+        &mut self.now[BESIDE..end]
+    }
+
+    // The list holds `asked`, or is as it was where nothing is asked; beside it nothing changed.
+    pub fn check(&self, asked: Option<&[T]>) -> Result<(), String> {
+        let mut whole = self.before.clone();
+        if let Some(entries) = asked {
+            if entries.len() != self.entries().len() {
+                return Err(format!("{}: {} entries, asked {}", self.name, self.entries().len(), entries.len()));
+            }
+            whole[BESIDE..BESIDE + entries.len()].copy_from_slice(entries);
+        }
+        match (0..whole.len()).find(|&i| whole[i] != self.now[i]) {
+            None => Ok(()),
+            Some(i) => Err(format!("{} at {}: {:?}, asked {:?}", self.name, i as i64 - BESIDE as i64, self.now[i], whole[i])),
+        }
+    }
+}

@@ -1,0 +1,67 @@
+//! The receiver again, written plainly from document 01 and from nothing else of this repository: to compare with, not to use.
+//!
+//! Refusals are rule by rule: every number that applies is gathered, and the lowest is given. Sizes are compared as 128-bit numbers, so no
+//! product wraps. Metrics are 64-bit, and an unreached state has none.
+
+pub mod coder;
+pub mod frame_decoder;
+pub mod house;
+pub mod listing;
+pub mod lone;
+mod rules;
+
+/// S states and n outputs, as told, and the lists of next states and words, which hold the branch of state s and bit b at 2·s + b.
+#[derive(Clone, Debug)]
+pub struct Table {
+    pub states: usize,
+    pub outputs: usize,
+    pub next: Vec<u8>,
+    pub words: Vec<u8>,
+}
+
+impl Table {
+    fn next_state(&self, s: usize, b: usize) -> usize {
+        self.next[2 * s + b] as usize
+    }
+
+    /// Output l, counted from 1, is bit l-1 of the word.
+    fn output(&self, s: usize, b: usize, l: usize) -> usize {
+        (self.words[2 * s + b] as usize >> (l - 1)) & 1
+    }
+
+    /// Output 1 of every branch is its input bit.
+    fn systematic(&self) -> bool {
+        (0..self.words.len()).all(|i| self.words[i] & 1 == (i & 1) as u8)
+    }
+}
+
+/// What coder and decoder of a frame are both told.
+#[derive(Clone, Debug)]
+pub struct Frame {
+    pub table: Table,
+    pub bits: usize,
+    pub tail: usize,
+    pub pattern: Vec<u32>,
+    pub masks: Vec<u8>,
+}
+
+impl Frame {
+    fn mask(&self, k: usize) -> u8 {
+        self.masks[k % self.masks.len()]
+    }
+
+    /// Over the K positions, the number of ones in the masks, plus 4·T.
+    pub fn length(&self) -> usize {
+        let mut ones = 0;
+        for k in 0..self.bits {
+            let m = self.mask(k) as usize;
+            ones += (m & 1) + (m >> 1 & 1) + (m >> 2 & 1);
+        }
+        ones + 4 * self.tail
+    }
+}
+
+/// The working list is all zeros after success, 12 and 13, and untouched by the others. 0 stands for success.
+pub fn clears_work(number: u32) -> bool {
+    number == 0 || number == 12 || number == 13
+}

@@ -1,0 +1,77 @@
+// The conditions of document 01's table, one function each. They may be asked in any order and of any call.
+use crate::{Frame, Table};
+
+pub const CHANNEL_LIMIT: i32 = 1023;
+pub const APRIORI_LIMIT: i32 = 8191;
+pub const MOST_SECTIONS: u128 = 4096;
+
+pub fn lowest(applying: &[(u32, bool)]) -> Option<u32> {
+    applying.iter().filter(|a| a.1).map(|a| a.0).min()
+}
+
+fn differs(length: usize, asked: u128) -> bool {
+    length as u128 != asked
+}
+
+// 2
+pub fn shape(t: &Table) -> bool {
+    let s = t.states as u128;
+    !(1..=16).contains(&s) || !(1..=4).contains(&t.outputs) || differs(t.next.len(), 2 * s) || differs(t.words.len(), 2 * s)
+}
+
+// 3
+pub fn branch(t: &Table) -> bool {
+    let words = 1u128 << t.outputs.min(100);
+    t.next.iter().any(|&s| s as usize >= t.states) || t.words.iter().any(|&w| w as u128 >= words)
+}
+
+// 4, of a lone pass and of a frame
+pub fn sections(n: usize) -> bool {
+    n < 1 || n as u128 > MOST_SECTIONS
+}
+
+pub fn sizes(f: &Frame) -> bool {
+    f.bits < 1 || f.tail > 4 || f.bits as u128 + f.tail as u128 > MOST_SECTIONS
+}
+
+// 5, for lists that are paired with the lengths asked of them
+pub fn lists(pairs: &[(usize, u128)]) -> bool {
+    pairs.iter().any(|&(length, asked)| differs(length, asked))
+}
+
+// 5, for the frame's list: measured only where 9 does not apply. Where 4 applies the length needn't be worked out.
+pub fn frame_list(f: &Frame, length: usize) -> bool {
+    !mask(f) && !sizes(f) && length != f.length()
+}
+
+// 6
+pub fn value(values: &[i16], limit: i32) -> bool {
+    values.iter().any(|&v| (v as i32) < -limit || v as i32 > limit)
+}
+
+// 7
+pub fn bit(message: &[u8]) -> bool {
+    message.iter().any(|&b| b != 0 && b != 1)
+}
+
+// 8
+pub fn pattern(f: &Frame) -> bool {
+    let mut sorted = f.pattern.clone();
+    sorted.sort_unstable();
+    sorted.len() != f.bits || sorted.iter().enumerate().any(|(i, &p)| p as usize != i)
+}
+
+// 9
+pub fn mask(f: &Frame) -> bool {
+    f.masks.is_empty() || f.masks.len() > 16 || f.masks.iter().any(|&m| m > 7)
+}
+
+// 10
+pub fn iterations(n: usize) -> bool {
+    !(1..=32).contains(&n)
+}
+
+// 11
+pub fn coder(f: &Frame) -> bool {
+    !f.table.systematic() || f.table.outputs != 2
+}

@@ -1,0 +1,183 @@
+//! The proved turbo frame receiver, safely.
+//!
+//! [`Table`] and [`Frame`] hold what coder and decoder agree on. [`encode`], [`decode`] and [`lone_decode`] make every list that the library
+//! writes, of the right length; what is left to refuse is told as a [`Refusal`]. The library itself makes every check, so none is made twice
+//! and in another way here. [`raw`] has the same calls on the caller's own lists.
+
+mod ffi;
+pub mod raw;
+mod refusal;
+
+pub use refusal::Refusal;
+
+/// A table: the branch of state s and input bit b stands at 2·s + b of its next states and of its words.
+#[derive(Clone, Debug, PartialEq, Eq)]
+pub struct Table {
+    outputs: usize,
+    next: Vec<u8>,
+    words: Vec<u8>,
+}
+
+impl Table {
+    /// A table of `branches.len()` states. Each state has the branch for bit 0, then the one for bit 1, each a next state and a word.
+    pub fn new(outputs: usize, branches: &[[(u8, u8); 2]]) -> Table {
+        Table {
+            outputs,
+            next: branches.iter().flatten().map(|b| b.0).collect(),
+            words: branches.iter().flatten().map(|b| b.1).collect(),
+        }
+    }
+
+    /// The house code: four states, two outputs.
+    pub fn house() -> Table {
+        let mut next = vec![0; 8];
+        let mut words = vec![0; 8];
+        let told = (raw::house_next(&mut next), raw::house_words(&mut words));
+        assert_eq!(told, (0, 0), "lists of eight entries are taken");
+        Table { outputs: 2, next, words }
+    }
+
+    pub fn states(&self) -> usize {
+        self.next.len() / 2
+    }
+
+    pub fn outputs(&self) -> usize {
+        self.outputs
+    }
+}
+
+/// What coder and decoder of a frame agree on. K, the number of message bits, is the length of the pattern.
+#[derive(Clone, Debug, PartialEq, Eq)]
+pub struct Frame {
+    pub table: Table,
+    /// The tail sections of each coder, 0..4.
+    pub tail: usize,
+    /// The second coder's input i is message bit pattern[i].
+    pub pattern: Vec<u32>,
+    /// 4·systematic + 2·parity 1 + parity 2, repeated over the message positions.
+    pub masks: Vec<u8>,
+}
+
+// No list is longer than these limits need.
+const MOST_STATES: usize = 16;
+const MOST_SECTIONS: usize = 4096;
+
+impl Frame {
+    pub fn bits(&self) -> usize {
+        self.pattern.len()
+    }
+
+    /// The length of the frame's list: the ones in the masks of the K positions, and four values a tail section.
+    pub fn frame_len(&self) -> usize {
+        let sent: usize = (0..self.bits()).filter_map(|k| self.masks.get(k % self.masks.len().max(1))).map(|m| m.count_ones() as usize).sum();
+        sent.saturating_add(self.tail.saturating_mul(4))
+    }
+
+    fn sections(&self) -> usize {
+        self.bits().saturating_add(self.tail)
+    }
+}
+
+/// What the frame decoder says of each message bit.
+#[derive(Clone, Debug, PartialEq, Eq)]
+pub struct Decoded {
+    pub bits: Vec<u8>,
+    pub margins: Vec<i32>,
+    pub extrinsics: Vec<i32>,
+}
+
+/// What the lone decoder says of one position.
+#[derive(Clone, Copy, Debug, PartialEq, Eq)]
+pub enum Position {
+    Free { margin: i32, extrinsic: i32 },
+    Forced(u8),
+}
+
+fn told(number: u32) -> Result<(), Refusal> {
+    match number {
+        0 => Ok(()),
+        n => Err(Refusal::from_number(n).expect("a number of the table")),
+    }
+}
+
+// More states or sections than the limits are refused before the working list is measured, so it is not made for them.
+fn working_list(sections: usize, states: usize) -> Vec<i32> {
+    if states > MOST_STATES || sections > MOST_SECTIONS {
+        return Vec::new();
+    }
+    vec![0; (sections + 1) * states]
+}
+
+/// The frame sent for a message of K bits, a bit an entry.
+pub fn encode(frame: &Frame, message: &[u8]) -> Result<Vec<u8>, Refusal> {
+    let t = &frame.table;
+    // A tail out of limits is refused before the frame's list is measured.
+    let long = if frame.sections() > MOST_SECTIONS { 0 } else { frame.frame_len() };
+    let mut sent = vec![0; long];
+    told(raw::encode(
+        t.states(),
+        t.outputs,
+        &t.next,
+        &t.words,
+        frame.bits(),
+        frame.tail,
+        message,
+        &frame.pattern,
+        &frame.masks,
+        &mut sent,
+    ))?;
+    Ok(sent)
+}
+
+/// Bits, margins and extrinsics after so many iterations, from the channel values of a frame.
+pub fn decode(frame: &Frame, received: &[i16], iterations: usize) -> Result<Decoded, Refusal> {
+    let t = &frame.table;
+    let k = frame.bits();
+    let mut out = Decoded { bits: vec![0; k], margins: vec![0; k], extrinsics: vec![0; k] };
+    let mut work = working_list(frame.sections(), t.states());
+    told(raw::decode(
+        t.states(),
+        t.outputs,
+        &t.next,
+        &t.words,
+        k,
+        frame.tail,
+        &frame.pattern,
+        &frame.masks,
+        received,
+        iterations,
+        &mut out.bits,
+        &mut out.margins,
+        &mut out.extrinsics,
+        &mut work,
+    ))?;
+    Ok(out)
+}
+
+/// One pass over a table. There are as many sections as a-priori values, and `outputs` channel values a section.
+pub fn lone_decode(table: &Table, channel: &[i16], apriori: &[i16]) -> Result<Vec<Position>, Refusal> {
+    let n = apriori.len();
+    let mut marks = vec![0; n];
+    let mut margins = vec![0; n];
+    let mut extrinsics = vec![0; n];
+    let mut work = working_list(n, table.states());
+    told(raw::lone_decode(
+        table.states(),
+        table.outputs,
+        &table.next,
+        &table.words,
+        n,
+        channel,
+        apriori,
+        &mut marks,
+        &mut margins,
+        &mut extrinsics,
+        &mut work,
+    ))?;
+    Ok((0..n)
+        .map(|i| match marks[i] {
+            2 => Position::Free { margin: margins[i], extrinsic: extrinsics[i] },
+            bit => Position::Forced(bit),
+        })
+        .collect())
+}

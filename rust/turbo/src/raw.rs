@@ -1,0 +1,135 @@
+//! The library's calls on the caller's own lists, with the number returned: 0 for done, else that of the refusal. include/turbo.h says what
+//! each list is. They are safe for any arguments: slices have their lengths, and those that are written overlap nothing.
+#![allow(clippy::too_many_arguments)]
+
+use crate::ffi;
+
+pub fn lone_decode(
+    states: usize,
+    outputs: usize,
+    next: &[u8],
+    words: &[u8],
+    sections: usize,
+    channel: &[i16],
+    apriori: &[i16],
+    marks: &mut [u8],
+    margins: &mut [i32],
+    extrinsics: &mut [i32],
+    work: &mut [i32],
+) -> u32 {
+    // SAFETY: each pointer is that of a slice with its own length, and the function has no `requires`.
+    unsafe {
+        ffi::turbo_lone_decode(
+            states,
+            outputs,
+            next.as_ptr(),
+            next.len(),
+            words.as_ptr(),
+            words.len(),
+            sections,
+            channel.as_ptr(),
+            channel.len(),
+            apriori.as_ptr(),
+            apriori.len(),
+            marks.as_mut_ptr(),
+            marks.len(),
+            margins.as_mut_ptr(),
+            margins.len(),
+            extrinsics.as_mut_ptr(),
+            extrinsics.len(),
+            work.as_mut_ptr(),
+            work.len(),
+        )
+    }
+}
+
+pub fn encode(
+    states: usize,
+    outputs: usize,
+    next: &[u8],
+    words: &[u8],
+    bits: usize,
+    tail: usize,
+    message: &[u8],
+    pattern: &[u32],
+    masks: &[u8],
+    sent: &mut [u8],
+) -> u32 {
+    // SAFETY: as above.
+    unsafe {
+        ffi::turbo_encode(
+            states,
+            outputs,
+            next.as_ptr(),
+            next.len(),
+            words.as_ptr(),
+            words.len(),
+            bits,
+            tail,
+            message.as_ptr(),
+            message.len(),
+            pattern.as_ptr(),
+            pattern.len(),
+            masks.as_ptr(),
+            masks.len(),
+            sent.as_mut_ptr(),
+            sent.len(),
+        )
+    }
+}
+
+pub fn decode(
+    states: usize,
+    outputs: usize,
+    next: &[u8],
+    words: &[u8],
+    bits: usize,
+    tail: usize,
+    pattern: &[u32],
+    masks: &[u8],
+    received: &[i16],
+    iterations: usize,
+    decided: &mut [u8],
+    margins: &mut [i32],
+    extrinsics: &mut [i32],
+    work: &mut [i32],
+) -> u32 {
+    // SAFETY: as above.
+    unsafe {
+        ffi::turbo_decode(
+            states,
+            outputs,
+            next.as_ptr(),
+            next.len(),
+            words.as_ptr(),
+            words.len(),
+            bits,
+            tail,
+            pattern.as_ptr(),
+            pattern.len(),
+            masks.as_ptr(),
+            masks.len(),
+            received.as_ptr(),
+            received.len(),
+            iterations,
+            decided.as_mut_ptr(),
+            decided.len(),
+            margins.as_mut_ptr(),
+            margins.len(),
+            extrinsics.as_mut_ptr(),
+            extrinsics.len(),
+            work.as_mut_ptr(),
+            work.len(),
+        )
+    }
+}
+
+pub fn house_next(list: &mut [u8]) -> u32 {
+    // SAFETY: as above.
+    unsafe { ffi::turbo_house_next(list.as_mut_ptr(), list.len()) }
+}
+
+pub fn house_words(list: &mut [u8]) -> u32 {
+    // SAFETY: as above.
+    unsafe { ffi::turbo_house_words(list.as_mut_ptr(), list.len()) }
+}
