@@ -1,0 +1,7 @@
+pub mod Pieces
+pub mod Reading
+pub mod Fitting
+pub mod Receiving
+pub mod Printing
+pub mod Decoding
+pub mod Answers

@@ -1,0 +1,175 @@
+-- The frame of a sheet whose text fits: every check before the values passes, no refusal of the frame decoder names a line, and the answer by its parts.
+-- Assumes nothing.
+use mathlib.Core.Path.{_≡_, refl, sym, ap, ap₂, _∙_}
+use mathlib.Core.Bool.{Bool, true, false, not, _||_}
+use mathlib.Core.List.{List, [], _∷_}
+use Prim.Native.Nat.{ℕ, zero, suc, _+_, _*_, _≤_}
+use native.Mathlib.Nat.{mod-one}
+use native.Mathlib.Omega.{arith}
+use lib.Count.{ones, onesIn}
+use lib.Dec.{eqb}
+use lib.IntN.{ℤ, pos}
+use lib.ListN.{length, replicate, length-replicate}
+use borrow.Author.Tests.{eq-eqb, le-leb}
+use Rattle.lists.specs.Lists.{listed, every, any, upto}
+use Rattle.lists.specs.laws.Listed.{listed-length}
+use Rattle.lists.specs.laws.Tests.{and-true}
+use Rattle.refusal.specs.declared.Refusal.{Refusal}
+use Rattle.refusal.specs.declared.Refusal.the-variants.{Shape, Branch, Length, Lists, Value, Pattern, Mask, Iterations, Coder, NoPath, ForcedPosition}
+use Rattle.refusal.specs.declared.Reply.{Reply}
+use Rattle.refusal.specs.declared.Reply.the-variants.{Done, Refused}
+use Rattle.refusal.specs.Refusals.{told, check, _then_}
+use Rattle.refusal.specs.laws.Checks.{refused-then, fails-first, passes-first}
+use Rattle.trellis.specs.Table.{shaped, branched}
+use Rattle.trellis.specs.Limits.{channelFits}
+use Rattle.trellis.specs.Outcome.{pathless, forced}
+use Rattle.frame.specs.Frame.{sections, sizesFit, masksFit, codes, maskAt, onesTo, lengthUnder, frameLength}
+use Rattle.frame.specs.Interleaver.{permutes}
+use Rattle.house.specs.House.{house, houseNext, houseParity}
+use Rattle.decoder.specs.Decoder.{DecodeCall, DecodeLent, DecodeResult, goodIterations, decodeListsFit, decodeChecked, decodeWalked, decodeReply, decodeSettled, decode}
+use Rattle.decoder.specs.Lent.{callOf, lentOf}
+use Rattle.sheet.specs.Sheet.{messageBits, messageAt, valuesOf, textReply, lentFor, refusalText, resultText, printed, answer, callOf as sheetCall}
+use Rattle.sheet.specs.laws.Fitting.{lineOf}
+
+-- the call for a pattern and its values
+abbrev pub houseCall : List ℕ → List ℤ → DecodeCall
+houseCall pattern received = callOf 4 2 (house .next) (house .words) (length pattern) 2 pattern (7 ∷ []) received 8
+
+-- lists of zeros for K = k
+abbrev pub blankFor : ℕ → DecodeLent
+blankFor k = lentOf (replicate k 0) (replicate k (pos 0)) (replicate k (pos 0)) (replicate ((k + 3) * 4) (pos 0))
+
+-- what is printed of a result
+abbrev pub printedBy : DecodeResult → List ℕ
+printedBy d = printed (d .reply) (d .lists)
+
+-- ---- the sheet's call
+
+module _ (sheet : List ℕ) where
+  abbrev pub patternOf : List ℕ
+  patternOf = listed (λ k. messageAt sheet k .to) (messageBits sheet)
+
+  pub call-is : houseCall patternOf (valuesOf sheet) ≡ sheetCall sheet
+  unfolding sheetCall house
+  call-is = rw (listed-length (λ k. messageAt sheet k .to) (messageBits sheet)) refl
+
+  pub lent-is : blankFor (messageBits sheet) ≡ lentFor sheet
+  unfolding lentFor
+  lent-is = refl
+
+  pub answer-refused : (r : Refusal) → textReply sheet ≡ Refused r → refusalText r ≡ answer sheet
+  unfolding answer printed _then_
+  answer-refused r e = rw e refl
+
+  pub answer-done : textReply sheet ≡ Done → printedBy (decode (sheetCall sheet) (lentFor sheet)) ≡ answer sheet
+  unfolding answer _then_
+  answer-done e = rw e refl
+
+-- ---- lines: the frame decoder's refusals have none
+
+line-check : (b : Bool) (r : Refusal) → told r .line ≡ 0 → lineOf (check b r) ≡ 0
+unfolding lineOf check
+line-check true r e = refl
+line-check false r e = e
+
+line-then : (x y : Reply) → lineOf x ≡ 0 → lineOf y ≡ 0 → lineOf (x then y) ≡ 0
+unfolding lineOf _then_
+line-then Done y e f = f
+line-then (Refused r) y e f = e
+
+pub decode-lineless : (c : DecodeCall) (l : DecodeLent) → lineOf (decode c l .reply) ≡ 0
+unfolding decode decodeSettled decodeReply decodeChecked decodeWalked told
+decode-lineless c l =
+    line-then _ _
+    (line-then _ _ (line-check (shaped (c .frame .table)) Shape refl)
+    (line-then _ _ (line-check (branched (c .frame .table)) Branch refl)
+    (line-then _ _ (line-check (sizesFit (c .frame)) Length refl)
+    (line-then _ _ (line-check (decodeListsFit c l) Lists refl)
+    (line-then _ _ (line-check (channelFits (c .received)) Value refl)
+    (line-then _ _ (line-check (permutes (c .frame .bits) (c .frame .pattern)) Pattern refl)
+    (line-then _ _ (line-check (masksFit (c .frame)) Mask refl)
+    (line-then _ _ (line-check (goodIterations (c .iterations)) Iterations refl)
+    (line-check (codes (c .frame)) Coder refl)))))))))
+    (line-then _ _ (line-check (not (pathless (c .frame .table) (sections (c .frame)))) NoPath refl)
+    (line-check (not (any (forced (c .frame .table) (sections (c .frame))) (upto (c .frame .bits)))) ForcedPosition refl))
+
+-- ---- a value outside its limits
+
+all-ones : (k : ℕ) → onesTo (7 ∷ []) k ≡ 3 * k
+unfolding onesTo maskAt
+all-ones zero = refl
+all-ones (suc k) = rw (mod-one k) (omega (arith, all-ones k, seven))
+  where
+    seven : ones 7 ≡ 3
+    seven = unfold ones onesIn in refl
+
+module _ (pattern : List ℕ) (received : List ℤ) (some-bits : 1 ≤ length pattern) (few-bits : length pattern ≤ 512)
+    (long : length received ≡ 3 * length pattern + 8) where
+  abbrev c : DecodeCall
+  c = houseCall pattern received
+
+  abbrev l : DecodeLent
+  l = blankFor (length pattern)
+
+  house-shaped : shaped (c .frame .table) ≡ true
+  unfolding shaped house listed
+  house-shaped = refl
+
+  house-branched : branched (c .frame .table) ≡ true
+  unfolding branched house houseNext houseParity listed every
+  house-branched = refl
+
+  sizes-fit : sizesFit (c .frame) ≡ true
+  unfolding sizesFit
+  sizes-fit = and-true (and-true (le-leb 1 (length pattern) some-bits) refl) (le-leb (length pattern + 2) 4096 (omega arith))
+
+  masks-fit : masksFit (c .frame) ≡ true
+  unfolding masksFit every
+  masks-fit = refl
+
+  lists-fit : decodeListsFit c l ≡ true
+  unfolding decodeListsFit frameLength lengthUnder sections
+  lists-fit =
+      let more : length pattern + 3 ≡ length pattern + 2 + 1 = omega arith in
+      let whole : (not (masksFit (c .frame)) || eqb (length received) (onesTo (7 ∷ []) (length pattern) + 4 * 2)) ≡ true =
+      rw masks-fit (eq-eqb (length received) (onesTo (7 ∷ []) (length pattern) + 4 * 2) (omega (arith, all-ones (length pattern), long))) in
+      and-true
+      (and-true
+      (and-true
+      (and-true
+      (and-true (eq-eqb (length pattern) (length pattern) refl) whole)
+      (eq-eqb _ _ (length-replicate {A = ℕ} (length pattern) 0)))
+      (eq-eqb _ _ (length-replicate (length pattern) (pos 0))))
+      (eq-eqb _ _ (length-replicate (length pattern) (pos 0))))
+      (eq-eqb _ _ (length-replicate ((length pattern + 3) * 4) (pos 0) ∙ ap (λ (n : ℕ). n * 4) more))
+
+  pub value-refused : channelFits received ≡ false → decode c l .reply ≡ Refused Value
+  unfolding decode decodeSettled decodeReply decodeChecked
+  value-refused e =
+      refused-then (decodeWalked c)
+      (sym (passes-first Shape house-shaped (passes-first Branch house-branched (passes-first Length sizes-fit (passes-first Lists lists-fit (fails-first _ e))))))
+
+-- ---- what is printed of a result
+
+pub printed-refused : (d : DecodeResult) {r : Refusal} → d .reply ≡ Refused r → refusalText r ≡ printedBy d
+unfolding printed
+printed-refused d e = rw e refl
+
+pub printed-done : (d : DecodeResult) → d .reply ≡ Done → resultText (d .lists) ≡ printedBy d
+unfolding printed
+printed-done d e = rw e refl
+
+-- what a refusal of the frame decoder says of its line
+pub refused-line : (c : DecodeCall) (l : DecodeLent) {r : Refusal} → Refused r ≡ decode c l .reply → told r .line ≤ 516
+unfolding lineOf
+refused-line c l e = omega (arith, ap lineOf e ∙ decode-lineless c l)
+
+-- the answer, from the sheet's pattern and values
+pub answer-by : (sheet pattern : List ℕ) (values : List ℤ) → textReply sheet ≡ Done → pattern ≡ patternOf sheet → values ≡ valuesOf sheet →
+    printedBy (decode (houseCall pattern values) (blankFor (length pattern))) ≡ answer sheet
+answer-by sheet pattern values done e f =
+    let size : length pattern ≡ messageBits sheet = ap length e ∙ listed-length (λ k. messageAt sheet k .to) (messageBits sheet) in
+    ap₂ (λ (c : DecodeCall) (l : DecodeLent). printedBy (decode c l))
+    (ap₂ houseCall e f ∙ call-is sheet)
+    (ap blankFor size ∙ lent-is sheet)
+    ∙ answer-done sheet done
