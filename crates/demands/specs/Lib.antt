@@ -3,4 +3,5 @@ pub mod Lone
 pub mod Decoding
 pub mod Coded
 pub mod Message
+pub mod Answered
 pub mod laws

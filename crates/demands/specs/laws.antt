@@ -14,3 +14,4 @@ pub mod Leaning
 pub mod Passes
 pub mod RightIterations
 pub mod RightSigned
+pub mod EverySheet

@@ -1,26 +1,42 @@
 -- What a sheet is answered with: a result, or 1, 6 or 8; and a result is a header and K lines.
 -- Assumes nothing.
-use mathlib.Core.Path.{_≡_, refl, ap₂, _∙_}
-use mathlib.Core.Bool.{Bool, true, false, cond, _||_}
-use mathlib.Core.List.{List, [], _∷_, _++_, List·Memᴰ, List·Memᴰ·not-nil}
-use Prim.Native.Nat.{ℕ, zero, suc, _+_, _-_, _/_, _%_, _≤_, _<_}
+use mathlib.Core.Path.{_≡_, refl, sym, ap, ap₂, _∙_}
+use mathlib.Core.Bool.{Bool, true, false, cond, not, _||_, false≢true}
+use mathlib.Core.List.{List, [], _∷_, _++_, map, List·Memᴰ, List·Memᴰ·not-nil}
+use mathlib.Core.Option.{Option, none, some, Option·elim}
+use Prim.Native.Nat.{ℕ, zero, suc, _+_, _-_, _*_, _/_, _%_, _≤_, _<_}
 use native.Mathlib.Omega.{arith}
 use lib.Dec.{eqb, ltb}
 use lib.IntN.{ℤ, pos, negsuc}
 use lib.ListN.{length, getD, replicate, length-append, length-replicate}
 use borrow.Author.Tests.{ne-eqb}
-use Rattle.lists.specs.Lists.{listed, joined, isEmpty, count}
+use Rattle.lists.specs.Lists.{listed, joined, isEmpty, count, any, upto}
 use Rattle.lists.specs.laws.Counts.{count-append}
+use Rattle.lists.specs.laws.Every.{any-upto-at}
+use Rattle.lists.specs.laws.Listed.{listed-length, listed-at, joined-length}
 use Rattle.text.specs.Text.{bytes}
 use Rattle.text.specs.Decimal.{digitsIn, digits, decimal}
+use Rattle.refusal.specs.declared.Refusal.{Refusal}
+use Rattle.refusal.specs.declared.Refusal.the-variants.{Text, Value, Pattern, NoPath, ForcedPosition}
+use Rattle.refusal.specs.declared.Reply.{Reply}
+use Rattle.refusal.specs.declared.Reply.the-variants.{Done, Refused}
+use Rattle.refusal.specs.Refusals.{told, numberOf, check, _then_}
+use Rattle.refusal.specs.laws.Checks.{refused-is-not-done, check-is-done, passes-first}
+use Rattle.refusal.specs.laws.Kept.{after-done}
 use Rattle.trellis.specs.Table.{nextState}
 use Rattle.trellis.specs.Path.{TrellisPath, finish, class}
 use Rattle.trellis.specs.Best.{InClass}
+use Rattle.trellis.specs.Limits.{channelFits}
 use Rattle.trellis.specs.Outcome.{forced}
+use Rattle.trellis.specs.laws.Emptiness.{unforced-has-path}
 use Rattle.trellis.specs.laws.Listing.{class-is}
+use Rattle.frame.specs.Frame.{sections, flags, spread}
+use Rattle.frame.specs.Interleaver.{permutes, place, deinterleave}
 use Rattle.house.specs.House.{house, houseNext}
-use Rattle.decoder.specs.Decoder.{DecodeLent}
-use Rattle.sheet.specs.Sheet.{resultLine, resultText}
+use Rattle.decoder.specs.Decoder.{DecodeCall, DecodeLent, decided, lastPass, decodeChecked, decodeWalked, decodeReply, decodeSettled, decode}
+use Rattle.sheet.specs.Sheet.{messageBits, messageAt, valuesOf, firstFault, textReply, lentFor, resultLine, resultText, callOf as sheetCall}
+use Rattle.sheet.specs.laws.Decoding.{blankFor, patternOf, call-is, lent-is, done-after, house-checked}
+use Rattle.sheet.specs.laws.Fitting.{fitting}
 
 -- ---- the house code has a path with either bit at every message position
 
@@ -90,6 +106,84 @@ house-free n k h =
       bit = bump-at k (n - (k + 3));
     } in
     ap₂ _||_ (not-empty (class house n k 0) zeros (class-is house n k 0 zeros .1 first)) (not-empty (class house n k 1) one (class-is house n k 1 one .1 second))
+
+-- ---- so a sheet whose text fits is refused by 6 or by 8, or is decoded
+
+none-forced : (n m : ℕ) → m + 2 ≤ n → any (forced house n) (upto m) ≡ false
+none-forced n m h = go (any (forced house n) (upto m)) refl
+  where
+    go : (t : Bool) → any (forced house n) (upto m) ≡ t → t ≡ false
+    go true e = let (k, below, is-forced) = any-upto-at (forced house n) m e in absurd (false≢true (sym (house-free n k (omega arith)) ∙ is-forced))
+    go false e = refl
+
+values-long : (sheet : List ℕ) → length (valuesOf sheet) ≡ 3 * messageBits sheet + 8
+unfolding valuesOf joined
+values-long sheet = simp length-append (rw (joined-length {A = ℤ} _ 3 (λ k. refl) (messageBits sheet)) (omega arith))
+
+module _ (sheet : List ℕ) (fits : textReply sheet ≡ Done) where
+  -- what a sheet whose text fits can be refused for: its values (6), then its pattern (8)
+  abbrev tests : ℕ → Reply
+  tests k = check (channelFits (valuesOf sheet)) Value then check (permutes k (patternOf sheet)) Pattern
+
+  pattern-long : length (patternOf sheet) ≡ messageBits sheet
+  pattern-long = listed-length (λ k. messageAt sheet k .to) (messageBits sheet)
+
+  sheet-checked : decodeChecked (sheetCall sheet) (lentFor sheet) ≡ tests (messageBits sheet)
+  sheet-checked =
+      let known = fitting sheet fits in
+      ap₂ decodeChecked (sym (call-is sheet)) (sym (ap blankFor pattern-long ∙ lent-is sheet))
+      ∙ house-checked (patternOf sheet) (valuesOf sheet)
+      (omega (arith, known .some-bits, pattern-long))
+      (omega (arith, known .few-bits, pattern-long))
+      (omega (arith, values-long sheet, pattern-long))
+      ∙ ap tests pattern-long
+
+  sheet-walked : decodeWalked (sheetCall sheet) ≡ Done
+  unfolding decodeWalked sheetCall sections
+  sheet-walked =
+      let some-bits = fitting sheet fits .some-bits in
+      let free = house-free (messageBits sheet + 2) 0 (omega arith) in
+      sym
+      (passes-first NoPath (ap not (unforced-has-path house (messageBits sheet + 2) 0 free))
+      (sym (check-is-done _ ForcedPosition .1 (ap not (none-forced (messageBits sheet + 2) (messageBits sheet) (omega arith))))))
+
+  pub sheet-reply : decode (sheetCall sheet) (lentFor sheet) .reply ≡ tests (messageBits sheet)
+  unfolding decode decodeSettled decodeReply
+  sheet-reply = sym (done-after _ sheet-walked) ∙ sheet-checked
+
+-- ---- a text that doesn't fit is refused by 1
+
+fault-number : (b : Bool) (f : Option ℕ) {r : Refusal} →
+    (check b (Text 0) then Option·elim f Done (λ i. Refused (Text (suc i)))) ≡ Refused r → told r .number ≡ 1
+unfolding check _then_ told numberOf Option·elim
+fault-number false f e = sym (ap numberOf e)
+fault-number true none e = absurd (refused-is-not-done (sym e))
+fault-number true (some i) e = sym (ap numberOf e)
+
+pub text-number : (sheet : List ℕ) {r : Refusal} → textReply sheet ≡ Refused r → told r .number ≡ 1
+unfolding textReply
+text-number sheet e = fault-number _ (firstFault sheet) e
+
+-- ---- a result's bits
+
+decided-small : (ms : List ℤ) (i : ℕ) → getD (map decided ms) i 0 < 2
+unfolding decided
+decided-small [] i = omega arith
+decided-small (pos m ∷ ms) zero = omega arith
+decided-small (negsuc m ∷ ms) zero = omega arith
+decided-small (m ∷ ms) (suc i) = decided-small ms i
+
+module _ (c : DecodeCall) (l : DecodeLent) (done : decode c l .reply ≡ Done) where
+  pub result-long : length (decode c l .lists .bits) ≡ length (c .frame .pattern)
+  unfolding decode decodeSettled deinterleave
+  result-long = ap length (after-done done _ _) ∙ listed-length _ (length (c .frame .pattern))
+
+  pub result-bit : (k : ℕ) → k < length (c .frame .pattern) → getD (decode c l .lists .bits) k 0 < 2
+  unfolding decode decodeSettled deinterleave
+  result-bit k h =
+      let f = c .frame in
+      let s = lastPass f (spread (pos 0) (flags f) (c .received)) (c .iterations) in
+      rw (after-done done _ _, listed-at {A = ℕ} _ (length (f .pattern)) k 0 h) (decided-small (s .margins) (place k (f .pattern)))
 
 -- ---- a result's lines, by its line feeds
 

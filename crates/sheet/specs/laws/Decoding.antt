@@ -1,4 +1,4 @@
--- The frame of a sheet whose text fits: every check before the values passes, no refusal of the frame decoder names a line, and the answer by its parts.
+-- The frame of a sheet whose text fits: no check fails but those of the values and of the pattern, no refusal of the frame decoder names a line, and the answer by its parts.
 -- Assumes nothing.
 use mathlib.Core.Path.{_≡_, refl, sym, ap, ap₂, _∙_}
 use mathlib.Core.Bool.{Bool, true, false, not, _||_}
@@ -19,8 +19,8 @@ use Rattle.refusal.specs.declared.Refusal.the-variants.{Shape, Branch, Length, 
 use Rattle.refusal.specs.declared.Reply.{Reply}
 use Rattle.refusal.specs.declared.Reply.the-variants.{Done, Refused}
 use Rattle.refusal.specs.Refusals.{told, check, _then_}
-use Rattle.refusal.specs.laws.Checks.{refused-then, fails-first, passes-first}
-use Rattle.trellis.specs.Table.{shaped, branched}
+use Rattle.refusal.specs.laws.Checks.{check-is-done, refused-then, fails-first, passes-first}
+use Rattle.trellis.specs.Table.{word, output, systematic, shaped, branched}
 use Rattle.trellis.specs.Limits.{channelFits}
 use Rattle.trellis.specs.Outcome.{pathless, forced}
 use Rattle.frame.specs.Frame.{sections, sizesFit, masksFit, codes, maskAt, onesTo, lengthUnder, frameLength}
@@ -93,7 +93,13 @@ decode-lineless c l =
     (line-then _ _ (line-check (not (pathless (c .frame .table) (sections (c .frame)))) NoPath refl)
     (line-check (not (any (forced (c .frame .table) (sections (c .frame))) (upto (c .frame .bits)))) ForcedPosition refl))
 
--- ---- a value outside its limits
+-- ---- the checks of a frame of K rows: none fails but that of the values and that of the pattern
+
+-- a reply stands where all that is looked at after it is done
+pub done-after : (x : Reply) {y : Reply} → y ≡ Done → x ≡ (x then y)
+unfolding _then_
+done-after Done e = sym e
+done-after (Refused r) e = refl
 
 all-ones : (k : ℕ) → onesTo (7 ∷ []) k ≡ 3 * k
 unfolding onesTo maskAt
@@ -143,11 +149,25 @@ module _ (pattern : List ℕ) (received : List ℤ) (some-bits : 1 ≤ length pa
       (eq-eqb _ _ (length-replicate (length pattern) (pos 0))))
       (eq-eqb _ _ (length-replicate ((length pattern + 3) * 4) (pos 0) ∙ ap (λ (n : ℕ). n * 4) more))
 
+  house-codes : codes (c .frame) ≡ true
+  unfolding codes systematic output word house houseParity listed upto every
+  house-codes = refl
+
+  -- the checks after the pattern's
+  after-pattern : (check (masksFit (c .frame)) Mask then check (goodIterations 8) Iterations then check (codes (c .frame)) Coder) ≡ Done
+  after-pattern = sym (passes-first Mask masks-fit (passes-first Iterations refl (sym (check-is-done _ Coder .1 house-codes))))
+
+  pub house-checked : decodeChecked c l ≡ (check (channelFits received) Value then check (permutes (length pattern) pattern) Pattern)
+  unfolding decodeChecked
+  house-checked =
+      sym
+      (passes-first Shape house-shaped
+      (passes-first Branch house-branched
+      (passes-first Length sizes-fit (passes-first Lists lists-fit (ap (λ (x : Reply). check (channelFits received) Value then x) (done-after _ after-pattern))))))
+
   pub value-refused : channelFits received ≡ false → decode c l .reply ≡ Refused Value
-  unfolding decode decodeSettled decodeReply decodeChecked
-  value-refused e =
-      refused-then (decodeWalked c)
-      (sym (passes-first Shape house-shaped (passes-first Branch house-branched (passes-first Length sizes-fit (passes-first Lists lists-fit (fails-first _ e))))))
+  unfolding decode decodeSettled decodeReply
+  value-refused e = refused-then (decodeWalked c) (house-checked ∙ sym (fails-first _ e))
 
 -- ---- what is printed of a result
 
