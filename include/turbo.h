@@ -27,14 +27,15 @@ extern "C" {
 #endif
 
 /*
- * The number that a call returns. Of the numbers that apply, the lowest is returned; each call tests only what it is lent.
+ * The number that a call returns; turbo_sheet returns a length instead. Of the numbers that apply, the lowest is returned; each call tests only
+ * what it is lent.
  *
  * After every refusal the result lists are as they were. The working list is all zeros after TURBO_DONE, TURBO_NO_PATH and
  * TURBO_FORCED_POSITION, and as it was after every other number.
  */
 enum turbo_reply {
     TURBO_DONE = 0,
-    TURBO_TEXT = 1,             /* the text of a sheet; none of the calls below returns it */
+    TURBO_TEXT = 1,             /* the text of a sheet; only in the answer of turbo_sheet, and returned by no call */
     TURBO_SHAPE = 2,            /* states outside 1..16, outputs outside 1..4, or a table list without two entries a state */
     TURBO_BRANCH = 3,           /* a next state not below the number of states, or a word not below 2^outputs */
     TURBO_LENGTH = 4,           /* sections outside 1..4096; or bits 0, tail above 4, or bits + tail above 4096 */
@@ -130,6 +131,22 @@ uint32_t turbo_decode(size_t states, size_t outputs,
                       int32_t *margins, size_t margins_len,
                       int32_t *extrinsics, size_t extrinsics_len,
                       int32_t *work, size_t work_len);
+
+/*
+ * The sheet: a frame of the house code as text, with two tail sections, decoded in eight iterations.
+ *
+ *   sheet           any bytes. A sheet has at most 16384: the line `at to sys par par2 sys2`, K rows, 1..512, and two tail rows, each ended by
+ *                   a line feed
+ *   answer          written from its start: `at bit margin extrinsic` and a line for each message position; or `refused line` and, on the next
+ *                   line, the number (1, 6 or 8), a space and the first faulty line, the header being 1. It is 0 for 6 and 8, and for a sheet
+ *                   too long or with too few or too many rows. Each line is ended by a line feed, and no zero byte follows. Entries after the
+ *                   answer are as they were
+ *
+ * Returns the answer's length, or 0 where `answer` has no room for it; the list is then as it was. A list of TURBO_ANSWER_ROOM entries
+ * always has room.
+ */
+#define TURBO_ANSWER_ROOM 24600
+size_t turbo_sheet(const uint8_t *sheet, size_t sheet_len, uint8_t *answer, size_t answer_len);
 
 /*
  * The house code's table: 4 states, 2 outputs. Each call writes 8 entries to a list of 8 and returns 0; a list of any other length is as it was,

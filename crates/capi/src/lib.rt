@@ -1,5 +1,9 @@
 // The receiver for programs in other languages: a list is a pointer and a length, and the reply is its number. include/turbo.h declares these.
+ghost use mathlib.Core.Bool.{cond};
+ghost use mathlib.Core.List.{_++_};
 ghost use mathlib.Core.Path.{_≡_};
+ghost use lib.Dec.{leb};
+ghost use lib.ListN.{length, drop};
 ghost use Rattle.refusal.specs.Refusals.{told, numberOf};
 ghost use Rattle.house.specs.House.{house};
 ghost use Rattle.siso.specs.Decode.{decode as loneDecoded};
@@ -8,6 +12,7 @@ ghost use Rattle.coder.specs.Coder.{encode as encoded};
 ghost use Rattle.coder.specs.Lent.{encodeOf};
 ghost use Rattle.decoder.specs.Decoder.{decode as decoded};
 ghost use Rattle.decoder.specs.Lent.{callOf, lentOf};
+ghost use Rattle.sheet.specs.Sheet.{answer as answerTo};
 ghost use Rattle.capi.specs.Returned.{returned, loneReturned, encodeReturned, decodeReturned, written};
 use refusal::Refusal;
 use refusal::Reply;
@@ -159,6 +164,18 @@ pub extern "C" fn turbo_decode(
         extrinsics,
         work,
     ))
+}
+
+// The sheet. An answer always has bytes, so 0 says that the list has no room for it.
+#[no_mangle]
+pub extern "C" fn turbo_sheet(sheet: &[u8], out: &mut [u8]) -> usize
+    ensures { λ r. ⌜ r ≡ cond (leb (length (answerTo (now (sheet .entry)))) (length (now (out .entry))))
+        (length (answerTo (now (sheet .entry)))) 0 ⌝ }
+    ensures { λ _. ⌜ now (out .exit) ≡ cond (leb (length (answerTo (now (sheet .entry)))) (length (now (out .entry))))
+        (answerTo (now (sheet .entry)) ++ drop (length (answerTo (now (sheet .entry)))) (now (out .entry)))
+        (now (out .entry)) ⌝ }
+{
+    sheet::answer(sheet, out)
 }
 
 // Eight entries to a list of eight; any other list is refused and stays as it was.

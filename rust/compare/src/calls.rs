@@ -6,6 +6,8 @@ use turbo::raw;
 
 pub struct Answer {
     pub number: u32,
+    // Of a sheet refused by 1; else 0.
+    pub line: usize,
     pub differences: Vec<String>,
 }
 
@@ -89,7 +91,7 @@ pub fn lone_decode(d: &mut Draw, most: Option<usize>) -> Answer {
             x.0.push(format!("plain side: {by_recursion:?}, by its listing {by_paths:?}"));
         }
     }
-    Answer { number, differences: x.0 }
+    Answer { number, line: 0, differences: x.0 }
 }
 
 fn lone_call(d: &mut Draw, most: Option<usize>) -> (lone::Call, lone::Lent) {
@@ -184,11 +186,11 @@ pub fn encode(d: &mut Draw, most: Option<usize>) -> Answer {
     x.add(pattern.check(None));
     x.add(masks.check(None));
     x.add(sent.check(asked.as_deref().ok()));
-    Answer { number, differences: x.0 }
+    Answer { number, line: 0, differences: x.0 }
 }
 
 // Received values: any, or those of a coded message with noise, so that iterations have something to find.
-fn received(d: &mut Draw, frame: &plain::Frame) -> Vec<i16> {
+pub fn received(d: &mut Draw, frame: &plain::Frame) -> Vec<i16> {
     let length = frame.length();
     if d.chance(2) {
         let message = (0..frame.bits).map(|_| d.below(2) as u8).collect();
@@ -282,7 +284,7 @@ pub fn decode(d: &mut Draw, most: Option<usize>) -> Answer {
     x.add(margins.check(results.map(|l| &l.margins[..])));
     x.add(extrinsics.check(results.map(|l| &l.extrinsics[..])));
     x.add(work.check(work_after(asked_number, lent.work).as_deref()));
-    Answer { number, differences: x.0 }
+    Answer { number, line: 0, differences: x.0 }
 }
 
 // Both lists of the house code, at every length up to 20: one of the calls' index.
@@ -297,5 +299,5 @@ pub fn house(d: &mut Draw, length: usize) -> Answer {
     x.0.extend(Differences::new(other, asked).0);
     x.add(next.check((asked == 0).then_some(&table.next[..])));
     x.add(words.check((asked == 0).then_some(&table.words[..])));
-    Answer { number, differences: x.0 }
+    Answer { number, line: 0, differences: x.0 }
 }

@@ -1,8 +1,9 @@
-//! Random calls of the static library against the plain receiver: tables of every size, frames short and long, valid and damaged calls. The
-//! number returned, every list written, every list read and what stands beside each list are compared. Exit status 1 on any difference, or
-//! where a number that an entry can give was never given.
+//! Random calls of the static library against the plain receiver: tables of every size, frames short and long, sheets of every K, valid and
+//! damaged calls; and sheets with the answers that document 01 asks for. The number returned, every list written, every list read and what stands
+//! beside each list are compared. Exit status 1 on any difference, or where a number that an entry can give, or a line that it must tell, was
+//! never given.
 //!
-//!     compare                   120,000 short calls and 260 long ones
+//!     compare                   120,000 short calls and 260 long ones; 1,024 sheets of every K, 515 with a fault in each line, 33,000 damaged ones
 //!     compare --long            twenty times the calls
 //!     compare --seed N          other calls; the seed is printed
 //!     compare --only STAGE      one stage
@@ -10,9 +11,14 @@
 mod calls;
 mod draw;
 mod lent;
+mod sheet_cases;
+mod sheet_faults;
+mod sheets;
 
 use calls::Answer;
 use draw::Draw;
+use sheet_cases::CASES;
+use std::ops::Range;
 use std::process::exit;
 use std::time::{Duration, Instant};
 
@@ -24,20 +30,33 @@ struct Stage {
     numbers: &'static [u32],
     // Each of them must be given; in stages of few calls only 0 must.
     all: bool,
+    // The lines that must each be told with 1.
+    lines: Range<usize>,
+    // There are no more calls than these.
+    once: bool,
 }
+
+// What most stages have in common.
+const EACH: Stage = Stage { name: "", calls: 0, run: |_, _| unreachable!(), numbers: &[], all: true, lines: 0..0, once: false };
 
 const LONE: &[u32] = &[0, 2, 3, 4, 5, 6, 12];
 const CODER: &[u32] = &[0, 2, 3, 4, 5, 7, 8, 9, 11, 14];
 const DECODER: &[u32] = &[0, 2, 3, 4, 5, 6, 8, 9, 10, 11, 12, 13];
 
+const SHEET: &[u32] = &[0, 1, 6, 8];
+
 const STAGES: &[Stage] = &[
-    Stage { name: "house", calls: 21, run: |d, i| calls::house(d, i as usize), numbers: &[0, 5], all: true },
-    Stage { name: "lone", calls: 40_000, run: |d, _| calls::lone_decode(d, None), numbers: LONE, all: true },
-    Stage { name: "coder", calls: 40_000, run: |d, _| calls::encode(d, None), numbers: CODER, all: true },
-    Stage { name: "decoder", calls: 40_000, run: |d, _| calls::decode(d, None), numbers: DECODER, all: true },
-    Stage { name: "lone-long", calls: 100, run: |d, _| calls::lone_decode(d, Some(4096)), numbers: LONE, all: false },
-    Stage { name: "coder-long", calls: 100, run: |d, _| calls::encode(d, Some(4096)), numbers: CODER, all: false },
-    Stage { name: "decoder-long", calls: 60, run: |d, _| calls::decode(d, Some(4096)), numbers: DECODER, all: false },
+    Stage { name: "house", calls: 21, run: |d, i| calls::house(d, i as usize), numbers: &[0, 5], once: true, ..EACH },
+    Stage { name: "lone", calls: 40_000, run: |d, _| calls::lone_decode(d, None), numbers: LONE, ..EACH },
+    Stage { name: "coder", calls: 40_000, run: |d, _| calls::encode(d, None), numbers: CODER, ..EACH },
+    Stage { name: "decoder", calls: 40_000, run: |d, _| calls::decode(d, None), numbers: DECODER, ..EACH },
+    Stage { name: "lone-long", calls: 100, run: |d, _| calls::lone_decode(d, Some(4096)), numbers: LONE, all: false, ..EACH },
+    Stage { name: "coder-long", calls: 100, run: |d, _| calls::encode(d, Some(4096)), numbers: CODER, all: false, ..EACH },
+    Stage { name: "decoder-long", calls: 60, run: |d, _| calls::decode(d, Some(4096)), numbers: DECODER, all: false, ..EACH },
+    Stage { name: "sheet-cases", calls: CASES.len() as u64, run: sheets::case, numbers: SHEET, lines: 0..5, once: true, ..EACH },
+    Stage { name: "sheet", calls: 1_024, run: |d, i| sheets::valid(d, i as usize % 512 + 1), numbers: &[0], ..EACH },
+    Stage { name: "sheet-lines", calls: 515, run: |d, i| sheets::faulty(d, i as usize % 515), numbers: &[1], lines: 1..516, ..EACH },
+    Stage { name: "sheet-damaged", calls: 33_000, run: sheets::damaged, numbers: SHEET, lines: 0..9, ..EACH },
 ];
 
 fn usage() -> ! {
@@ -58,12 +77,13 @@ fn number(word: Option<String>) -> u64 {
 
 // Runs a stage and says whether all is well.
 fn run(s: &Stage, seed: u64, times: u64) -> bool {
-    let calls = if s.name == "house" { s.calls } else { s.calls * times };
-    let mut given = [0u64; 16];
+    let calls = if s.once { s.calls } else { s.calls * times };
+    let (mut given, mut lines) = ([0u64; 16], vec![0u64; 1 << 10]);
     let (mut differing, mut told) = (0, Instant::now());
     for i in 0..calls {
         let answer = (s.run)(&mut Draw::for_call(seed, s.name, i), i);
         given[(answer.number as usize).min(15)] += 1;
+        lines[answer.line.min(1023)] += (answer.number == 1) as u64;
         if !answer.differences.is_empty() {
             differing += 1;
             if differing <= 3 {
@@ -77,7 +97,12 @@ fn run(s: &Stage, seed: u64, times: u64) -> bool {
     }
     let counts: Vec<String> = (0..16).filter(|&n| given[n] > 0).map(|n| format!("{n}:{}", given[n])).collect();
     println!("{}: seed {seed}, {calls} calls, {differing} differ; numbers given {}", s.name, counts.join(" "));
-    let mut good = differing == 0;
+    all_given(s, &given) & all_told(s, &lines) & (differing == 0)
+}
+
+// The numbers given are those of the stage.
+fn all_given(s: &Stage, given: &[u64; 16]) -> bool {
+    let mut good = true;
     for n in 0..16 {
         let wanted = s.numbers.contains(&(n as u32));
         if wanted && given[n] == 0 && (s.all || n == 0) {
@@ -90,6 +115,21 @@ fn run(s: &Stage, seed: u64, times: u64) -> bool {
         }
     }
     good
+}
+
+// The lines told with 1 are at least those of the stage.
+fn all_told(s: &Stage, lines: &[u64]) -> bool {
+    let told = |l: usize| format!("{l}:{}", lines[l]);
+    let first: Vec<String> = (0..10).filter(|&l| lines[l] > 0).map(told).collect();
+    let after = lines[10..].iter().filter(|&&n| n > 0).count();
+    if !first.is_empty() {
+        println!("{}: lines told with 1 {} and {after} more lines", s.name, first.join(" "));
+    }
+    let never: Vec<usize> = s.lines.clone().filter(|&l| lines[l] == 0).collect();
+    for line in &never {
+        println!("{}: 1 was never told with line {line}", s.name);
+    }
+    never.is_empty()
 }
 
 fn main() {

@@ -1,4 +1,5 @@
-//! The receiver again, written plainly from document 01 and from nothing else of this repository: to compare with, not to use.
+//! The receiver again, written plainly from document 01 and from nothing else of this repository: to compare with, not to use. Where a
+//! sentence about sheets is unclear, docs/DECISIONS.md says how it is read.
 //!
 //! Refusals are rule by rule: every number that applies is gathered, and the lowest is given. Sizes are compared as 128-bit numbers, so no
 //! product wraps. Metrics are 64-bit, and an unreached state has none.
@@ -9,6 +10,7 @@ pub mod house;
 pub mod listing;
 pub mod lone;
 mod rules;
+pub mod sheet;
 
 /// S states and n outputs, as told, and the lists of next states and words, which hold the branch of state s and bit b at 2·s + b.
 #[derive(Clone, Debug)]

@@ -68,6 +68,8 @@ extern "C" {
         work_len: usize,
     ) -> u32;
 
+    pub fn turbo_sheet(sheet: *const u8, sheet_len: usize, answer: *mut u8, answer_len: usize) -> usize;
+
     pub fn turbo_house_next(list: *mut u8, list_len: usize) -> u32;
 
     pub fn turbo_house_words(list: *mut u8, list_len: usize) -> u32;

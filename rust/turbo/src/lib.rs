@@ -1,8 +1,8 @@
 //! The proved turbo frame receiver, safely.
 //!
 //! [`Table`] and [`Frame`] hold what coder and decoder agree on. [`encode`], [`decode`] and [`lone_decode`] make every list that the library
-//! writes, of the right length; what is left to refuse is told as a [`Refusal`]. The library itself makes every check, so none is made twice
-//! and in another way here. [`raw`] has the same calls on the caller's own lists.
+//! writes, of the right length; what is left to refuse is told as a [`Refusal`]. [`sheet`] answers a sheet's text with text. The library itself
+//! makes every check, so none is made twice and in another way here. [`raw`] has the same calls on the caller's own lists.
 
 mod ffi;
 pub mod raw;
@@ -61,6 +61,7 @@ pub struct Frame {
 // No list is longer than these limits need.
 const MOST_STATES: usize = 16;
 const MOST_SECTIONS: usize = 4096;
+const ANSWER_ROOM: usize = 24_600;
 
 impl Frame {
     pub fn bits(&self) -> usize {
@@ -180,4 +181,13 @@ pub fn lone_decode(table: &Table, channel: &[i16], apriori: &[i16]) -> Result<Ve
             bit => Position::Forced(bit),
         })
         .collect())
+}
+
+/// What the program prints for a sheet: its header and a line for each message position, or `refused line` and the number with its line.
+pub fn sheet(sheet: &[u8]) -> Vec<u8> {
+    let mut answer = vec![0; ANSWER_ROOM];
+    let length = raw::sheet(sheet, &mut answer);
+    assert_ne!(length, 0, "such a list has room for every answer");
+    answer.truncate(length);
+    answer
 }

@@ -1,5 +1,6 @@
-//! The library's calls on the caller's own lists, with the number returned: 0 for done, else that of the refusal. include/turbo.h says what
-//! each list is. They are safe for any arguments: slices have their lengths, and those that are written overlap nothing.
+//! The library's calls on the caller's own lists, with the number returned: 0 for done, else that of the refusal; [`sheet`] returns a length
+//! instead. include/turbo.h says what each list is. They are safe for any arguments: slices have their lengths, and those that are written
+//! overlap nothing.
 #![allow(clippy::too_many_arguments)]
 
 use crate::ffi;
@@ -122,6 +123,12 @@ pub fn decode(
             work.len(),
         )
     }
+}
+
+/// The length of the answer, or 0 where its list has no room for it and is left as it was.
+pub fn sheet(sheet: &[u8], answer: &mut [u8]) -> usize {
+    // SAFETY: as above.
+    unsafe { ffi::turbo_sheet(sheet.as_ptr(), sheet.len(), answer.as_mut_ptr(), answer.len()) }
 }
 
 pub fn house_next(list: &mut [u8]) -> u32 {

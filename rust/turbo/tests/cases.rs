@@ -1,5 +1,5 @@
 //! Bench cases of document 01, through the binding.
-use turbo::{decode, encode, lone_decode, Frame, Position, Refusal, Table};
+use turbo::{decode, encode, lone_decode, raw, sheet, Frame, Position, Refusal, Table};
 
 fn house_frame(bits: u32, tail: usize, masks: &[u8]) -> Frame {
     Frame { table: Table::house(), tail, pattern: (0..bits).collect(), masks: masks.to_vec() }
@@ -22,6 +22,30 @@ fn p1_margins_and_extrinsics() {
 fn p2_one_bit() {
     let said = decode(&house_frame(1, 2, &[6]), &[-3, 5, 2, -4, 1, 7, -6, 1, 4, 3], 8).unwrap();
     assert_eq!((said.bits, said.margins, said.extrinsics), (vec![1], vec![13], vec![1]));
+}
+
+const P2: &[u8] = b"at to sys par par2 sys2\n0 0 -3 5 - -\n1 - 2 -4 1 -6\n2 - 1 7 3 4\n";
+
+#[test]
+fn p2_as_a_sheet() {
+    assert_eq!(sheet(P2), b"at bit margin extrinsic\n0 1 13 1\n");
+}
+
+#[test]
+fn refused_sheets() {
+    assert_eq!(sheet(b""), b"refused line\n1 0\n");
+    assert_eq!(sheet(&P2[..P2.len() - 1]), b"refused line\n1 4\n");
+    assert_eq!(sheet(b"at to sys par par2 sys2\n0 0 1024 5 - -\n1 - 2 -4 1 -6\n2 - 1 7 3 4\n"), b"refused line\n6 0\n");
+    assert_eq!(sheet(b"at to sys par par2 sys2\n0 1 -3 5 - -\n1 - 2 -4 1 -6\n2 - 1 7 3 4\n"), b"refused line\n8 0\n");
+}
+
+#[test]
+fn a_list_without_room_for_the_answer() {
+    let mut answer = [7; 33];
+    assert_eq!(raw::sheet(P2, &mut answer[..32]), 0);
+    assert_eq!(answer, [7; 33]);
+    assert_eq!(raw::sheet(P2, &mut answer), 33);
+    assert_eq!(&answer, b"at bit margin extrinsic\n0 1 13 1\n");
 }
 
 #[test]
