@@ -53,8 +53,8 @@ const HEADERS: &[&str] = &[
     "at  to sys par par2 sys2", "at\tto sys par par2 sys2", "at to sys par sys2 par2", "at to sys par par2 sys2\0", "0 0 1 1 1 -",
 ];
 
-// Words that are all numbers or `-`, so that rows of them are often rows of a sheet.
-const FEW: &[&str] = &["-", "-", "0", "0", "1", "2", "-7", "1023", "-1023", "1024", "99999"];
+// What stands under `sys`, `par` and `par2`, one in twelve too loud.
+const VALUES: [&str; 12] = ["-", "-", "0", "1", "-1", "2", "-7", "30", "-300", "1023", "-1023", "1024"];
 
 // ---- lines and fields
 
@@ -379,10 +379,22 @@ fn two_lines(d: &mut Draw, sheet: &mut Vec<u8>) {
 
 // ---- from nothing
 
+// Small sheets of words that are mostly right where they stand.
 fn rows_of_words(d: &mut Draw, sheet: &mut Vec<u8>) {
+    let bits = d.size(1, 2);
     let mut lines = vec![HEADER.to_string()];
-    for k in 0..d.size(3, 4) {
-        lines.push(format!("{k} {} {} {} {} {}", d.of(FEW), d.of(FEW), d.of(FEW), d.of(FEW), d.of(FEW)));
+    for k in 0..bits + 2 {
+        let mut fields = vec![k.to_string()];
+        for i in 1..6 {
+            let right = match (k < bits, i) {
+                (true, 1) => d.of(&["0", "1"]),
+                (true, 5) | (false, 1) => "-",
+                (true, _) => d.of(&VALUES),
+                (false, _) => d.of(&VALUES[2..]),
+            };
+            fields.push(if d.chance(40) { d.of(WORDS) } else { right }.to_string());
+        }
+        lines.push(fields.join(" "));
     }
     *sheet = text(&lines);
 }
