@@ -4,7 +4,7 @@ ghost use mathlib.Core.List.{_++_};
 ghost use mathlib.Core.Path.{_≡_};
 ghost use lib.Dec.{leb};
 ghost use lib.ListN.{length, drop};
-ghost use Rattle.refusal.specs.Refusals.{told, numberOf};
+ghost use Rattle.refusal.specs.Refusals.{numberOf};
 ghost use Rattle.house.specs.House.{house};
 ghost use Rattle.siso.specs.Decode.{decode as loneDecoded};
 ghost use Rattle.siso.specs.Lent.{callOf as loneCallOf, lentOf as loneLentOf};
@@ -15,38 +15,6 @@ ghost use Rattle.decoder.specs.Lent.{callOf, lentOf};
 ghost use Rattle.sheet.specs.Sheet.{answer as answerTo};
 ghost use Rattle.capi.specs.Returned.{returned, loneReturned, encodeReturned, decodeReturned, written};
 use refusal::Refusal;
-use refusal::Reply;
-
-fn number_of_refusal(why: Refusal) -> u32
-    ensures { λ r. ⌜ r ≡ told why .number ⌝ }
-{
-    match why {
-        Refusal::Text(_) => 1,
-        Refusal::Shape => 2,
-        Refusal::Branch => 3,
-        Refusal::Length => 4,
-        Refusal::Lists => 5,
-        Refusal::Value => 6,
-        Refusal::Bit => 7,
-        Refusal::Pattern => 8,
-        Refusal::Mask => 9,
-        Refusal::Iterations => 10,
-        Refusal::Coder => 11,
-        Refusal::NoPath => 12,
-        Refusal::ForcedPosition => 13,
-        Refusal::NoTail => 14,
-    }
-}
-
-// 0 stands for done.
-fn number_of(reply: Reply) -> u32
-    ensures { λ r. ⌜ r ≡ numberOf reply ⌝ }
-{
-    match reply {
-        Reply::Done => 0,
-        Reply::Refused(why) => number_of_refusal(why),
-    }
-}
 
 // The lone decoder.
 #[no_mangle]
@@ -71,7 +39,7 @@ pub extern "C" fn turbo_lone_decode(
         (now (channel .entry)) (now (apriori .entry)))
         (loneLentOf (now (marks .entry)) (now (margins .entry)) (now (extrinsics .entry)) (now (work .entry)))) ⌝ }
 {
-    number_of(siso::decode(
+    refusal::number_of(siso::decode(
         states,
         outputs,
         next,
@@ -108,7 +76,7 @@ pub extern "C" fn turbo_encode(
         (now (message .entry)) (now (pattern .entry)) (now (masks .entry)))
         (now (sent .entry))) ⌝ }
 {
-    number_of(turbo::encode(
+    refusal::number_of(turbo::encode(
         states,
         outputs,
         next,
@@ -148,7 +116,7 @@ pub extern "C" fn turbo_decode(
         (now (received .entry)) iterations)
         (lentOf (now (bits .entry)) (now (margins .entry)) (now (extrinsics .entry)) (now (work .entry)))) ⌝ }
 {
-    number_of(turbo::decode(
+    refusal::number_of(turbo::decode(
         states,
         outputs,
         next,
@@ -183,7 +151,7 @@ fn write(entries: [u8; 8], list: &mut [u8]) -> u32
     ensures { λ r. ⌜ returned r (now (list .exit)) ≡ written entries (now (list .entry)) ⌝ }
 {
     if list.len() != 8 {
-        return number_of_refusal(Refusal::Lists);
+        return refusal::number_of_refusal(Refusal::Lists);
     }
     let mut i = 0;
     while i < 8 {

@@ -1,6 +1,6 @@
-// Every refusal, the reply of an entry, and checks in turn. The number of each refusal is a definition of specs/.
+// Every refusal, the reply of an entry, and checks in turn. The number and the line of each refusal are definitions of specs/.
 ghost use mathlib.Core.Path.{_≡_};
-ghost use Rattle.refusal.specs.Refusals.{check as checkOf, _then_};
+ghost use Rattle.refusal.specs.Refusals.{told, numberOf, check as checkOf, _then_};
 
 pub enum Refusal {
     // The sheet's text, with the faulty line, or 0.
@@ -23,6 +23,48 @@ pub enum Refusal {
 pub enum Reply {
     Done,
     Refused(Refusal),
+}
+
+// The number of a refusal, as document 01's table has it.
+pub fn number_of_refusal(why: Refusal) -> u32
+    ensures { λ r. ⌜ r ≡ told why .number ⌝ }
+{
+    match why {
+        Refusal::Text(_) => 1,
+        Refusal::Shape => 2,
+        Refusal::Branch => 3,
+        Refusal::Length => 4,
+        Refusal::Lists => 5,
+        Refusal::Value => 6,
+        Refusal::Bit => 7,
+        Refusal::Pattern => 8,
+        Refusal::Mask => 9,
+        Refusal::Iterations => 10,
+        Refusal::Coder => 11,
+        Refusal::NoPath => 12,
+        Refusal::ForcedPosition => 13,
+        Refusal::NoTail => 14,
+    }
+}
+
+// The line of a refusal: 0 for every number but 1.
+pub fn line_of(why: Refusal) -> usize
+    ensures { λ r. ⌜ r ≡ told why .line ⌝ }
+{
+    match why {
+        Refusal::Text(line) => line,
+        _ => 0,
+    }
+}
+
+// The number of a reply: 0 stands for done.
+pub fn number_of(reply: Reply) -> u32
+    ensures { λ r. ⌜ r ≡ numberOf reply ⌝ }
+{
+    match reply {
+        Reply::Done => 0,
+        Reply::Refused(why) => number_of_refusal(why),
+    }
 }
 
 // One check: refused by `why` unless it passes.

@@ -37,12 +37,6 @@ pub struct Message {
     pub par2: i32,
 }
 
-// A refusal as it is printed: its number, and its line.
-pub struct Shown {
-    pub number: i32,
-    pub line: i32,
-}
-
 // A tail row, or zeros where the text is none.
 pub struct Tail {
     pub fits: bool,

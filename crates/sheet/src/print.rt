@@ -2,14 +2,12 @@
 ghost use mathlib.Core.List.{[], _∷_, _++_};
 ghost use mathlib.Core.Path.{_≡_};
 ghost use Prim.Native.Nat.{_+_, _*_, _≤_, _<_};
-ghost use lib.IntN.{pos};
 ghost use lib.ListN.{length, take};
 ghost use Rattle.decoder.specs.Lent.{lentOf};
 ghost use Rattle.refusal.specs.Refusals.{told};
 ghost use Rattle.text.specs.Decimal.{decimal as decimalOf};
 ghost use Rattle.sheet.specs.Sheet.{refusalText, resultText};
-ghost use Rattle.sheet.specs.laws.Printing.{Pasted, Wrote, lineText, shownOf};
-use crate::Shown;
+ghost use Rattle.sheet.specs.laws.Printing.{Pasted, Wrote, lineText};
 use refusal::Refusal;
 
 // A text at a place; the place after it.
@@ -78,47 +76,15 @@ pub fn put_result(page: &mut [u8], bits: &[u8], margins: &[i32], extrinsics: &[i
     at
 }
 
-// A refusal that has no line.
-fn plain(number: i32) -> Shown
-    ensures { λ r. ⌜ r ≡ record { number = number; line = pos 0 } ⌝ }
-{
-    Shown { number, line: 0 }
-}
-
-// The number of a refusal, and its line.
-fn shown(why: Refusal) -> Shown
-    requires { ⌜ told why .line ≤ 516 ⌝ }
-    ensures { λ r. ⌜ r ≡ shownOf why ⌝ }
-{
-    match why {
-        Refusal::Text(line) => Shown {
-            number: 1,
-            line: line as i32,
-        },
-        Refusal::Shape => plain(2),
-        Refusal::Branch => plain(3),
-        Refusal::Length => plain(4),
-        Refusal::Lists => plain(5),
-        Refusal::Value => plain(6),
-        Refusal::Bit => plain(7),
-        Refusal::Pattern => plain(8),
-        Refusal::Mask => plain(9),
-        Refusal::Iterations => plain(10),
-        Refusal::Coder => plain(11),
-        Refusal::NoPath => plain(12),
-        Refusal::ForcedPosition => plain(13),
-        Refusal::NoTail => plain(14),
-    }
-}
-
 // A refusal: its number and its line.
 pub fn put_refusal(page: &mut [u8], why: Refusal) -> usize
     requires { ⌜ length (now page) ≡ 24600 ⌝ }
     requires { ⌜ told why .line ≤ 516 ⌝ }
     ensures { λ r. ⌜ Wrote 24600 (now (page .entry)) 0 (refusalText why) (now (page .exit)) r ⌝ }
 {
-    let told = shown(why);
+    let number = refusal::number_of_refusal(why) as i32;
+    let line = refusal::line_of(why) as i32;
     let one = put(page, 0, b"refused line\n");
-    let two = put_number(page, one, told.number, 32);
-    put_number(page, two, told.line, 10)
+    let two = put_number(page, one, number, 32);
+    put_number(page, two, line, 10)
 }

@@ -1,14 +1,15 @@
--- Laws of a check and of checks in turn: when they are done, and which refusal a chain of them gives.
+-- Laws of a check and of checks in turn: when they are done, and which refusal a chain of them gives. The numbers of refusals are small.
 -- Assumes nothing.
 use mathlib.Core.Path.{_≡_, refl, sym, _∙_}
 use mathlib.Core.Logic.{_↔_}
 use mathlib.Core.Bool.{Bool, true, false, false≢true}
-use Prim.Native.Nat.{ℕ}
+use Prim.Native.Nat.{ℕ, _≤_}
 use native.Mathlib.Omega.{arith}
 use Rattle.refusal.specs.declared.Refusal.{Refusal}
+use Rattle.refusal.specs.declared.Refusal.the-variants.{Text, Shape, Branch, Length, Lists, Value, Bit, Pattern, Mask, Iterations, Coder, NoPath, ForcedPosition, NoTail}
 use Rattle.refusal.specs.declared.Reply.{Reply}
 use Rattle.refusal.specs.declared.Reply.the-variants.{Done, Refused}
-use Rattle.refusal.specs.Refusals.{check, _then_}
+use Rattle.refusal.specs.Refusals.{told, check, _then_}
 
 pub refused-is-not-done : {r : Refusal} → Refused r ≡ Done → ⊥
 refused-is-not-done e = let z : _≡_ {A = ℕ} 0 1 = cc in omega arith
@@ -56,3 +57,28 @@ fails-first rest e = sym (refused-then rest (sym (fails e)))
 
 pub passes-first : {b : Bool} (r : Refusal) {x rest : Reply} → b ≡ true → x ≡ rest → x ≡ (check b r then rest)
 passes-first {b} r e f = f ∙ sym (done-then (check-is-done b r .1 e))
+
+-- a reply stands where all that is looked at after it is done
+pub done-after : (x : Reply) {y : Reply} → y ≡ Done → x ≡ (x then y)
+unfolding _then_
+done-after Done e = sym e
+done-after (Refused r) e = refl
+
+-- ---- numbers
+
+pub number-small : (r : Refusal) → told r .number ≤ 14
+unfolding told
+number-small (Text line) = omega arith
+number-small Shape = omega arith
+number-small Branch = omega arith
+number-small Length = omega arith
+number-small Lists = omega arith
+number-small Value = omega arith
+number-small Bit = omega arith
+number-small Pattern = omega arith
+number-small Mask = omega arith
+number-small Iterations = omega arith
+number-small Coder = omega arith
+number-small NoPath = omega arith
+number-small ForcedPosition = omega arith
+number-small NoTail = omega arith

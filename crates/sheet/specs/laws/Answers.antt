@@ -21,7 +21,7 @@ use Rattle.refusal.specs.declared.Refusal.the-variants.{Text, Value, Pattern, N
 use Rattle.refusal.specs.declared.Reply.{Reply}
 use Rattle.refusal.specs.declared.Reply.the-variants.{Done, Refused}
 use Rattle.refusal.specs.Refusals.{told, numberOf, check, _then_}
-use Rattle.refusal.specs.laws.Checks.{refused-is-not-done, check-is-done, passes-first}
+use Rattle.refusal.specs.laws.Checks.{refused-is-not-done, check-is-done, passes-first, done-after}
 use Rattle.refusal.specs.laws.Kept.{after-done}
 use Rattle.trellis.specs.Table.{nextState}
 use Rattle.trellis.specs.Path.{TrellisPath, finish, class}
@@ -35,7 +35,7 @@ use Rattle.frame.specs.Interleaver.{permutes, place, deinterleave}
 use Rattle.house.specs.House.{house, houseNext}
 use Rattle.decoder.specs.Decoder.{DecodeCall, DecodeLent, decided, lastPass, decodeChecked, decodeWalked, decodeReply, decodeSettled, decode}
 use Rattle.sheet.specs.Sheet.{messageBits, messageAt, valuesOf, firstFault, textReply, lentFor, resultLine, resultText, callOf as sheetCall}
-use Rattle.sheet.specs.laws.Decoding.{blankFor, patternOf, call-is, lent-is, done-after, house-checked}
+use Rattle.sheet.specs.laws.Decoding.{blankFor, patternOf, call-is, lent-is, house-checked}
 use Rattle.sheet.specs.laws.Fitting.{fitting}
 
 -- ---- the house code has a path with either bit at every message position

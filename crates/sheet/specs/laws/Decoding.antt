@@ -19,7 +19,7 @@ use Rattle.refusal.specs.declared.Refusal.the-variants.{Shape, Branch, Length, 
 use Rattle.refusal.specs.declared.Reply.{Reply}
 use Rattle.refusal.specs.declared.Reply.the-variants.{Done, Refused}
 use Rattle.refusal.specs.Refusals.{told, check, _then_}
-use Rattle.refusal.specs.laws.Checks.{check-is-done, refused-then, fails-first, passes-first}
+use Rattle.refusal.specs.laws.Checks.{check-is-done, refused-then, fails-first, passes-first, done-after}
 use Rattle.trellis.specs.Table.{word, output, systematic, shaped, branched}
 use Rattle.trellis.specs.Limits.{channelFits}
 use Rattle.trellis.specs.Outcome.{pathless, forced}
@@ -94,12 +94,6 @@ decode-lineless c l =
     (line-check (not (any (forced (c .frame .table) (sections (c .frame))) (upto (c .frame .bits)))) ForcedPosition refl))
 
 -- ---- the checks of a frame of K rows: none fails but that of the values and that of the pattern
-
--- a reply stands where all that is looked at after it is done
-pub done-after : (x : Reply) {y : Reply} → y ≡ Done → x ≡ (x then y)
-unfolding _then_
-done-after Done e = sym e
-done-after (Refused r) e = refl
 
 all-ones : (k : ℕ) → onesTo (7 ∷ []) k ≡ 3 * k
 unfolding onesTo maskAt

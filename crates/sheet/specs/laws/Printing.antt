@@ -14,7 +14,6 @@ use Rattle.refusal.specs.Refusals.{told}
 use Rattle.decoder.specs.Decoder.{DecodeLent}
 use Rattle.text.specs.Text.{bytes}
 use Rattle.text.specs.Decimal.{decimal}
-use Rattle.sheet.specs.declared.Shown.{Shown}
 use Rattle.sheet.specs.Sheet.{refusalText, resultLine, resultText}
 
 -- a text of at most `room` bytes stands at a place, and nothing before it has changed
@@ -75,9 +74,6 @@ work-unseen l m e f g =
     rw (e, f, g) (ap (λ (ls : List ℕ). bytes "at bit margin extrinsic\n" ++ ls) (joined-ext _ _ (length (m .bits)) (λ i h. refl)))
 
 -- ---- a refusal's text
-
-abbrev pub shownOf : Refusal → Shown
-shownOf r = record { number = pos (told r .number); line = pos (told r .line) }
 
 pub refusal-is : (r : Refusal) → (bytes "refused line\n" ++ entry (pos (told r .number)) 32) ++ entry (pos (told r .line)) 10 ≡ refusalText r
 unfolding refusalText bytes decimal

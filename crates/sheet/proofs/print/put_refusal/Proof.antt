@@ -1,21 +1,34 @@
 -- `print::put_refusal` meets its contract: the header and two numbers.
 -- Assumes nothing.
-use mathlib.Core.Path.{ap, ap₂, _∙_}
+use mathlib.Core.Path.{_≡_, ap, ap₂, _∙_}
 use mathlib.Core.List.{_++_}
+use Prim.Native.Nat.{_≤_}
 use native.Mathlib.Omega.{arith}
-use lib.IntN.{ℤ}
-use mir.Syntax.{w32}
-use mir.Val.{SFits}
+use lib.IntN.{ℤ, pos}
 use mir.Facts.{toZ-ofZ}
 use borrow.Author.Needs.{needs}
+use Rattle.integers.specs.laws.Linear.{ints}
+use Rattle.refusal.specs.laws.Checks.{number-small}
 use Rattle.text.specs.Text.{bytes}
-use Rattle.sheet.specs.declared.Shown.{Shown}
 use Rattle.sheet.specs.laws.Printing.{wrote-then, pasted-wrote, entry, refusal-is}
 use Rattle.sheet.proofs.print.put_refusal.Statement.{statement}
 use Rattle.sheet.proofs.print.put_refusal.Tie as tie
 
-shown-requires : tie.Need-shown-requires
-shown-requires c κs = search needs
+number-of-refusal-requires : tie.Need-number-of-refusal-requires
+number-of-refusal-requires c κs = search needs
+
+cast-number : tie.Need-cast-number
+cast-number c =
+    let small : c .number-of-refusal .result ≤ 14 = rw (c .number-of-refusal .ensures) (number-small (c .before .before .args .why)) in
+    simp ints (omega arith)
+
+line-of-requires : tie.Need-line-of-requires
+line-of-requires c κs = search needs
+
+cast-line : tie.Need-cast-line
+cast-line c =
+    let small : c .line-of .result ≤ 516 = rw (c .line-of .ensures) (c .before .before .before .pre .1) in
+    simp ints (omega arith)
 
 slice-aggregate-put : tie.Need-slice-aggregate-put
 slice-aggregate-put c = search needs
@@ -36,25 +49,26 @@ returns : tie.Need-returns
 unfolding bytes
 returns c =
     let two = c .before .before in
-    let one = two .before .before .before .before .before in
-    let header = one .before .before .before .before .before in
-    let told = header .before .before .before in
-    let start = told .before .before in
-    let f : SFits w32 (told .shown .result .number) = let t = one .before .struct-told .given in search needs in
-    let g : SFits w32 (told .shown .result .line) = let t = two .before .struct-told2 .given in search needs in
-    let number = toZ-ofZ f ∙ ap (λ (s : Shown). s .number) (told .shown .ensures) in
-    let line = toZ-ofZ g ∙ ap (λ (s : Shown). s .line) (told .shown .ensures) in
+    let one = two .before .before .before .before in
+    let header = one .before .before .before .before in
+    let line-told = header .before .before .before in
+    let number-told = line-told .before in
+    let number = toZ-ofZ (cast-number number-told) ∙ ap pos (number-told .number-of-refusal .ensures) in
+    let line = toZ-ofZ (cast-line line-told) ∙ ap pos (line-told .line-of .ensures) in
     let w = wrote-then (wrote-then (pasted-wrote 13 (omega arith) (omega arith) (header .put .ensures)) (one .put-number .ensures)) (two .put-number2 .ensures) in
     record {
       few = omega (arith, w .few);
-      is = w .is ∙ ap₂ (λ (n l : ℤ). bytes "refused line\n" ++ entry n 32 ++ entry l 10) number line ∙ refusal-is (start .args .why);
+      is = w .is ∙ ap₂ (λ (n l : ℤ). bytes "refused line\n" ++ entry n 32 ++ entry l 10) number line ∙ refusal-is (number-told .before .before .args .why);
     }
 
 pub put-refusal-spec : {M : Type 1} → statement M
 put-refusal-spec =
     tie.close
     (tie.spec
-    shown-requires
+    number-of-refusal-requires
+    cast-number
+    line-of-requires
+    cast-line
     slice-aggregate-put
     put-requires
     put-number-requires

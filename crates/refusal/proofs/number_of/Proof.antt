@@ -1,9 +1,9 @@
 -- `number_of` is the number of the reply by the definition.
 -- Assumes nothing.
 use borrow.Author.Needs.{needs}
 use Rattle.refusal.specs.Refusals.{numberOf}
-use Rattle.capi.proofs.number_of.Statement.{statement}
-use Rattle.capi.proofs.number_of.Tie as tie
+use Rattle.refusal.proofs.number_of.Statement.{statement}
+use Rattle.refusal.proofs.number_of.Tie as tie
 
 enum-told : tie.Need-enum-told
 enum-told c = search needs

@@ -1,9 +1,9 @@
 -- `number_of_refusal` is the number that the definition tells.
 -- Assumes nothing.
 use borrow.Author.Needs.{needs}
 use Rattle.refusal.specs.Refusals.{told}
-use Rattle.capi.proofs.number_of_refusal.Statement.{statement}
-use Rattle.capi.proofs.number_of_refusal.Tie as tie
+use Rattle.refusal.proofs.number_of_refusal.Statement.{statement}
+use Rattle.refusal.proofs.number_of_refusal.Tie as tie
 
 enum-told : tie.Need-enum-told
 enum-told c = search needs
