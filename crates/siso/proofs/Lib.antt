@@ -1,3 +1,4 @@
+pub mod Held
 pub mod Branch
 pub mod Rows
 pub mod Steps

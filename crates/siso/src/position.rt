@@ -6,37 +6,35 @@ ghost use lib.ListN.{length, set};
 ghost use Rattle.integers.specs.laws.Bounds.{Within};
 ghost use Rattle.trellis.specs.Outcome.{outcomeOf, positionOf, mark as markOf, margin as marginOf};
 ghost use Rattle.trellis.specs.laws.Sizes.{Small};
-ghost use Rattle.siso.specs.laws.Held.{there};
-use crate::metric::Metric;
+ghost use Rattle.siso.specs.laws.Held.{held};
+use crate::metric::reached;
 use trellis::Outcome;
 use trellis::Position;
 
 // The position, from the best metrics with bit 0 and with bit 1, one of which is there, and the intrinsic part of its margin.
-pub fn settled(zero: Metric, one: Metric, intrinsic: i32) -> Position
-    requires { ⌜ Small 100000000 (there zero) ⌝ }
-    requires { ⌜ Small 100000000 (there one) ⌝ }
+pub fn settled(zero: i32, one: i32, intrinsic: i32) -> Position
+    requires { ⌜ Small 100000000 (held zero) ⌝ }
+    requires { ⌜ Small 100000000 (held one) ⌝ }
     requires { ⌜ Within 9214 intrinsic ⌝ }
-    requires { ⌜ (outcomeOf (there zero) (there one) ≡ none → ⊥) ⌝ }
-    ensures { λ r. ⌜ some r ≡ positionOf intrinsic (outcomeOf (there zero) (there one)) ⌝ }
+    requires { ⌜ (outcomeOf (held zero) (held one) ≡ none → ⊥) ⌝ }
+    ensures { λ r. ⌜ some r ≡ positionOf intrinsic (outcomeOf (held zero) (held one)) ⌝ }
 {
-    match one {
-        Metric::Unreached => Position {
+    if !reached(one) {
+        return Position {
             outcome: Outcome::Forced(0),
             extrinsic: 0,
-        },
-        Metric::At(y) => match zero {
-            Metric::Unreached => Position {
-                outcome: Outcome::Forced(1),
-                extrinsic: 0,
-            },
-            Metric::At(x) => {
-                let margin = (y - x) / 2;
-                Position {
-                    outcome: Outcome::Free(margin),
-                    extrinsic: margin - intrinsic,
-                }
-            }
-        },
+        };
+    }
+    if !reached(zero) {
+        return Position {
+            outcome: Outcome::Forced(1),
+            extrinsic: 0,
+        };
+    }
+    let margin = (one - zero) / 2;
+    Position {
+        outcome: Outcome::Free(margin),
+        extrinsic: margin - intrinsic,
     }
 }
 

@@ -1,21 +1,18 @@
 // One section: the metrics of its words, and the steps over it forwards and backwards.
 ghost use mathlib.Core.List.{[], _∷_};
-ghost use mathlib.Core.Option.{some};
 ghost use mathlib.Core.Path.{_≡_};
-ghost use Prim.Native.Nat.{ℕ, _≤_, _<_};
+ghost use Prim.Native.Nat.{ℕ, _+_, _≤_, _<_};
 ghost use lib.IntN.{pos, _+ℤ_};
 ghost use lib.ListN.{length, getD};
 ghost use Rattle.integers.specs.laws.Bounds.{Within};
 ghost use Rattle.trellis.specs.Table.{output as outputOf};
 ghost use Rattle.trellis.specs.Path.{signed as signedBy, wordMetric};
-ghost use Rattle.trellis.specs.laws.MaxPlus.{plus as sum};
-ghost use Rattle.trellis.specs.laws.Sizes.{Small};
 ghost use Rattle.trellis.specs.laws.Sweeps.{advance, retreat};
-ghost use Rattle.siso.specs.laws.Held.{there, row, targetOf, branchMetricOf, bestOf, Branches, BranchMetrics, Held};
-use crate::metric::Metric;
-use crate::metric::join;
+ghost use Rattle.siso.specs.laws.Held.{held, row, rowAt, targetOf, branchMetricOf, bestOf, Branches, Held, Saved};
+use crate::metric::NOTHING;
 use crate::metric::larger;
 use crate::metric::plus;
+use crate::metric::through;
 
 // Bit l of a word.
 fn output(word: usize, l: usize) -> usize
@@ -74,129 +71,136 @@ fn value(channel: &[i16], l: usize) -> i32
 }
 
 // The part of each word in the metric of a section, from the section's channel values.
-pub fn word_metrics(channel: &[i16]) -> [i32; 16]
+pub fn word_metrics(channel: &[i16], g: &mut [i32])
     requires { ⌜ length (now channel) ≤ 4 ⌝ }
     requires { ⌜ ((l : ℕ) → l < length (now channel) → Within 1023 (getD (now channel) l (pos 0))) ⌝ }
-    ensures { λ r. ⌜
-        ((w : ℕ) → w < 16
-        → getD r w (pos 0)
+    ensures { λ _. ⌜
+        ((w : ℕ) → w < length (now (g .entry))
+        → getD (now (g .exit)) w (pos 0)
         ≡ wordMetric (λ l. getD (now (channel .entry)) l (pos 0)) w (length (now (channel .entry)))) ⌝ }
 {
     let y0 = value(channel, 0);
     let y1 = value(channel, 1);
     let y2 = value(channel, 2);
     let y3 = value(channel, 3);
-    let mut g = [0; 16];
     let mut w: usize = 0;
-    while w < 16 {
+    while w < g.len() {
         g[w] = word_metric(w, y0, y1, y2, y3);
         w += 1;
     }
-    g
 }
 
-// A metric, if it is there, with that of a branch of bit b: sign × a-priori value, and the part g of the branch's word.
-fn along(x: Metric, g: i32, a: i32, b: usize) -> Metric
-    requires { ⌜ Small 100000000 (there x) ⌝ }
-    requires { ⌜ Within 4092 g ⌝ }
+// The metric of a branch of bit b: sign × a-priori value, and the part g of the branch's word.
+fn branch_metric(b: usize, a: i32, g: i32) -> i32
     requires { ⌜ Within 8191 a ⌝ }
-    ensures { λ r. ⌜ there r ≡ sum (there x) (some (signedBy b a +ℤ g)) ⌝ }
+    requires { ⌜ Within 4092 g ⌝ }
+    ensures { λ r. ⌜ r ≡ signedBy b a +ℤ g ⌝ }
 {
-    plus(x, signed(b, a) + g)
+    signed(b, a) + g
 }
 
-// The metrics after a section, from those before it.
+// The metrics after a section, from those before it, which are stored in the working list from a place on.
 pub fn forwards(
     next: &[u8],
     words: &[u8],
     states: usize,
-    g: [i32; 16],
+    g: &[i32],
     a: i32,
-    m: [Metric; 16],
-) -> [Metric; 16]
-    requires { ⌜ Branches states (now next) (now words) ⌝ }
-    requires { ⌜ BranchMetrics g a ⌝ }
-    requires { ⌜ Held states m ⌝ }
+    m: [i32; 16],
+    work: &mut [i32],
+    at: usize,
+) -> [i32; 16]
+    requires { ⌜ Branches states (now next) (now words) (now g) a ⌝ }
+    requires { ⌜ Held states (row m) ⌝ }
+    requires { ⌜ at + states ≤ length (now work) ⌝ }
     ensures { λ r. ⌜
-        ((s : ℕ)
+        ((s : ℕ) → s < 16
         → row r s
-        ≡ advance (targetOf (now (next .entry))) (branchMetricOf (now (words .entry)) g a) states (row m) s) ⌝ }
+        ≡ advance (targetOf (now (next .entry))) (branchMetricOf (now (words .entry)) (now (g .entry)) a) states
+        (row m) s) ⌝ }
+    ensures { λ _. ⌜ Saved m states at (now (work .entry)) (now (work .exit)) ⌝ }
 {
-    let mut out = [Metric::Unreached; 16];
-    let mut i: usize = 0;
-    while i < 2 * states {
-        let x = m[i / 2];
-        let to = next[i] as usize;
-        let w = words[i] as usize;
-        let had = out[to];
-        out[to] = larger(had, along(x, g[w], a, i % 2));
-        i += 1;
+    let mut out = [NOTHING; 16];
+    let mut s: usize = 0;
+    while s < states {
+        let i = 2 * s;
+        let x = m[s];
+        work[at + s] = x;
+        let t0 = next[i] as usize;
+        let w0 = words[i] as usize;
+        let t1 = next[i + 1] as usize;
+        let w1 = words[i + 1] as usize;
+        let y0 = plus(x, branch_metric(0, a, g[w0]));
+        let y1 = plus(x, branch_metric(1, a, g[w1]));
+        let had0 = out[t0];
+        out[t0] = larger(had0, y0);
+        let had1 = out[t1];
+        out[t1] = larger(had1, y1);
+        s += 1;
     }
     out
 }
 
-// The metrics before a section, from those after it.
+// What a step back gives: the metrics before a section, and the best metrics with bit 0 and with bit 1 in it.
+pub struct Back {
+    pub metrics: [i32; 16],
+    pub zero: i32,
+    pub one: i32,
+}
+
+// A step back, from the metrics after a section and those before it, which stand in the working list from a place on.
 pub fn backwards(
     next: &[u8],
     words: &[u8],
     states: usize,
-    g: [i32; 16],
+    g: &[i32],
     a: i32,
-    m: [Metric; 16],
-) -> [Metric; 16]
-    requires { ⌜ Branches states (now next) (now words) ⌝ }
-    requires { ⌜ BranchMetrics g a ⌝ }
-    requires { ⌜ Held states m ⌝ }
+    m: [i32; 16],
+    work: &[i32],
+    at: usize,
+) -> Back
+    requires { ⌜ Branches states (now next) (now words) (now g) a ⌝ }
+    requires { ⌜ Held states (row m) ⌝ }
+    requires { ⌜ at + states ≤ length (now work) ⌝ }
+    requires { ⌜ Held states (rowAt (now work) at) ⌝ }
     ensures { λ r. ⌜
         ((s : ℕ) → s < states
-        → row r s
-        ≡ retreat (targetOf (now (next .entry))) (branchMetricOf (now (words .entry)) g a) (row m) s) ⌝ }
+        → row (r .metrics) s
+        ≡ retreat (targetOf (now (next .entry))) (branchMetricOf (now (words .entry)) (now (g .entry)) a) (row m) s) ⌝ }
+    ensures { λ r. ⌜
+        held (r .zero)
+        ≡ bestOf states (now (next .entry)) (now (words .entry)) (now (g .entry)) a
+        (rowAt (now (work .entry)) at) (row m) 0 ⌝ }
+    ensures { λ r. ⌜
+        held (r .one)
+        ≡ bestOf states (now (next .entry)) (now (words .entry)) (now (g .entry)) a
+        (rowAt (now (work .entry)) at) (row m) 1 ⌝ }
 {
-    let mut out = [Metric::Unreached; 16];
+    let mut out = [NOTHING; 16];
+    let mut zero = NOTHING;
+    let mut one = NOTHING;
     let mut s: usize = 0;
     while s < states {
         let i = 2 * s;
+        let f = work[at + s];
         let t0 = next[i] as usize;
         let w0 = words[i] as usize;
-        let x0 = m[t0];
+        let g0 = branch_metric(0, a, g[w0]);
+        let m0 = m[t0];
         let t1 = next[i + 1] as usize;
         let w1 = words[i + 1] as usize;
-        let x1 = m[t1];
-        out[s] = larger(along(x0, g[w0], a, 0), along(x1, g[w1], a, 1));
+        let g1 = branch_metric(1, a, g[w1]);
+        let m1 = m[t1];
+        out[s] = larger(plus(m0, g0), plus(m1, g1));
+        let best0 = larger(zero, through(f, g0, m0));
+        zero = best0;
+        let best1 = larger(one, through(f, g1, m1));
+        one = best1;
         s += 1;
     }
-    out
-}
-
-// The best metric of the paths that take bit b in a section, where f has the metrics before it and m those after it.
-pub fn best(
-    next: &[u8],
-    words: &[u8],
-    states: usize,
-    g: [i32; 16],
-    a: i32,
-    f: [Metric; 16],
-    m: [Metric; 16],
-    b: usize,
-) -> Metric
-    requires { ⌜ Branches states (now next) (now words) ⌝ }
-    requires { ⌜ BranchMetrics g a ⌝ }
-    requires { ⌜ Held states f ⌝ }
-    requires { ⌜ Held states m ⌝ }
-    requires { ⌜ b < 2 ⌝ }
-    ensures { λ r. ⌜ there r ≡ bestOf states (now (next .entry)) (now (words .entry)) g a f m b ⌝ }
-{
-    let mut top = Metric::Unreached;
-    let mut s: usize = 0;
-    while s < states {
-        let x = f[s];
-        let i = 2 * s + b;
-        let to = next[i] as usize;
-        let w = words[i] as usize;
-        let y = m[to];
-        let more = larger(top, join(x, along(y, g[w], a, b)));
-        top = more;
-        s += 1;
+    Back {
+        metrics: out,
+        zero: zero,
+        one: one,
     }
-    top
 }

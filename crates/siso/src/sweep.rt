@@ -1,8 +1,8 @@
 // The two sweeps of a pass.
 ghost use mathlib.Core.Bool.{cond, false};
-ghost use mathlib.Core.Option.{some};
+ghost use mathlib.Core.Option.{none, some};
 ghost use mathlib.Core.Path.{_≡_};
-ghost use Prim.Native.Nat.{_+_, _*_};
+ghost use Prim.Native.Nat.{_+_, _*_, _^_};
 ghost use lib.IntN.{pos, _+ℤ_};
 ghost use lib.ListN.{length, replicate};
 ghost use Rattle.integers.specs.laws.Bounds.{Within};
@@ -10,27 +10,18 @@ ghost use Rattle.lists.specs.Lists.{found};
 ghost use Rattle.trellis.specs.Table.{tableOf};
 ghost use Rattle.trellis.specs.Outcome.{pathless, outcomeOf, positionOf};
 ghost use Rattle.trellis.specs.Outcome.{marks as marksOf, margins as marginsOf, extrinsics as extrinsicsOf};
+ghost use Rattle.trellis.specs.laws.Sizes.{Small};
 ghost use Rattle.trellis.specs.laws.Sweeps.{boundary, forward as forwardRow};
-ghost use Rattle.siso.specs.laws.Held.{there, bestOf};
-ghost use Rattle.siso.specs.laws.Between.{Settling};
+ghost use Rattle.siso.specs.laws.Held.{held};
 ghost use Rattle.siso.specs.Decode.{walked, settled};
 ghost use Rattle.siso.specs.Lent.{valuesOf, callOf, lentOf, resultOf};
 ghost use Rattle.siso.specs.laws.Pass.{Pass, Forward};
-use crate::metric::Metric;
 use refusal::Refusal;
 use refusal::Reply;
 use trellis::Position;
 
-fn reached(m: Metric) -> bool
-    ensures { λ r. ⌜ r ≡ found (there m) ⌝ }
-{
-    match m {
-        Metric::Unreached => false,
-        Metric::At(_) => true,
-    }
-}
-
-// The forward metrics before every section and after the last, in the working list; and whether a path reaches the end.
+// The forward metrics before every section, in the working list; and whether a path reaches the end. The list g takes the metrics of a
+// section's words.
 fn forward(
     states: usize,
     outputs: usize,
@@ -39,11 +30,13 @@ fn forward(
     sections: usize,
     channel: &[i16],
     apriori: &[i16],
+    g: &mut [i32],
     work: &mut [i32],
 ) -> bool
     requires { ⌜
         Pass (tableOf states outputs (now next) (now words)) sections
         (valuesOf (now channel) (now apriori)) ⌝ }
+    requires { ⌜ length (now g) ≡ 2 ^ outputs ⌝ }
     requires { ⌜ length (now work) ≡ (sections + 1) * states ⌝ }
     ensures { λ _. ⌜
         Forward
@@ -58,19 +51,26 @@ fn forward(
         boundary sections 0) ⌝ }
 {
     let mut m = crate::metric::boundary();
-    crate::metric::save(m, states, work, 0);
     let mut k: usize = 0;
     while k < sections {
         let from = outputs * k;
         let to = from + outputs;
-        let g = crate::section::word_metrics(&channel[from..to]);
-        let after = crate::section::forwards(next, words, states, g, apriori[k] as i32, m);
+        crate::section::word_metrics(&channel[from..to], g);
+        let after = crate::section::forwards(
+            next,
+            words,
+            states,
+            g,
+            apriori[k] as i32,
+            m,
+            work,
+            states * k,
+        );
         m = after;
         k += 1;
-        crate::metric::save(m, states, work, states * k);
     }
     let end = m[0];
-    reached(end)
+    crate::metric::reached(end)
 }
 
 // The intrinsic part of the margin at a section.
@@ -82,29 +82,15 @@ fn intrinsic(y: i16, a: i16, sys: bool) -> i32
     if sys { a as i32 + y as i32 } else { a as i32 }
 }
 
-// The position at a section with channel value y and a-priori value a, where g has the metrics of its words, f the metrics
-// before it and m those after it.
-fn settle(
-    next: &[u8],
-    words: &[u8],
-    states: usize,
-    sys: bool,
-    y: i16,
-    a: i16,
-    g: [i32; 16],
-    f: [Metric; 16],
-    m: [Metric; 16],
-) -> Position
-    requires { ⌜ Settling states (now next) (now words) g y a f m ⌝ }
-    ensures { λ r. ⌜
-        some r ≡ positionOf (a +ℤ cond sys y (pos 0))
-        (outcomeOf
-        (bestOf states (now (next .entry)) (now (words .entry)) g a f m 0)
-        (bestOf states (now (next .entry)) (now (words .entry)) g a f m 1)) ⌝ }
+// The position at a section with channel value y and a-priori value a, from the best metrics with bit 0 and with bit 1.
+fn settle(zero: i32, one: i32, sys: bool, y: i16, a: i16) -> Position
+    requires { ⌜ Small 100000000 (held zero) ⌝ }
+    requires { ⌜ Small 100000000 (held one) ⌝ }
+    requires { ⌜ (outcomeOf (held zero) (held one) ≡ none → ⊥) ⌝ }
+    requires { ⌜ Within 1023 y ⌝ }
+    requires { ⌜ Within 8191 a ⌝ }
+    ensures { λ r. ⌜ some r ≡ positionOf (a +ℤ cond sys y (pos 0)) (outcomeOf (held zero) (held one)) ⌝ }
 {
-    let wide = a as i32;
-    let zero = crate::section::best(next, words, states, g, wide, f, m, 0);
-    let one = crate::section::best(next, words, states, g, wide, f, m, 1);
     let told = intrinsic(y, a, sys);
     crate::position::settled(zero, one, told)
 }
@@ -121,12 +107,14 @@ fn backward(
     marks: &mut [u8],
     margins: &mut [i32],
     extrinsics: &mut [i32],
+    g: &mut [i32],
     work: &[i32],
 )
     requires { ⌜
         Pass (tableOf states outputs (now next) (now words)) sections
         (valuesOf (now channel) (now apriori)) ⌝ }
     requires { ⌜ pathless (tableOf states outputs (now next) (now words)) sections ≡ false ⌝ }
+    requires { ⌜ length (now g) ≡ 2 ^ outputs ⌝ }
     requires { ⌜ length (now work) ≡ (sections + 1) * states ⌝ }
     requires { ⌜
         Forward (tableOf states outputs (now next) (now words)) (valuesOf (now channel) (now apriori))
@@ -160,11 +148,11 @@ fn backward(
         let k = left - 1;
         let from = outputs * k;
         let to = from + outputs;
-        let g = crate::section::word_metrics(&channel[from..to]);
-        let f = crate::metric::load(states, work, states * k);
+        crate::section::word_metrics(&channel[from..to], g);
         let a = apriori[k];
-        let p = settle(next, words, states, sys, channel[from], a, g, f, m);
-        let before = crate::section::backwards(next, words, states, g, a as i32, m);
+        let b = crate::section::backwards(next, words, states, g, a as i32, m, work, states * k);
+        let p = settle(b.zero, b.one, sys, channel[from], a);
+        let before = b.metrics;
         crate::position::put(k, p, marks, margins, extrinsics);
         m = before;
         left = k;
@@ -213,6 +201,8 @@ pub fn run(
         (now (channel .entry)) (now (apriori .entry)))
         (lentOf (now (marks .entry)) (now (margins .entry)) (now (extrinsics .entry)) (now (work .entry))) ⌝ }
 {
+    let mut of_words = [0; 16];
+    let g = &mut of_words[..trellis::word_count(outputs)];
     let path = forward(
         states,
         outputs,
@@ -221,6 +211,7 @@ pub fn run(
         sections,
         channel,
         apriori,
+        g,
         work,
     );
     if !path {
@@ -238,6 +229,7 @@ pub fn run(
         marks,
         margins,
         extrinsics,
+        g,
         work,
     );
     clear(work);

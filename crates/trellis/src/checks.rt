@@ -1,6 +1,7 @@
 // The checks that every entry over a table shares. They take any lists, and rely on nothing.
+ghost use mathlib.Core.Bool.{_&&_};
 ghost use mathlib.Core.Path.{_≡_};
-ghost use Prim.Native.Nat.{_^_, _≤_};
+ghost use Prim.Native.Nat.{_^_, min};
 ghost use lib.Dec.{ltb};
 ghost use lib.IntN.{natAbs};
 ghost use Rattle.integers.specs.Integers.{inside as insideOf};
@@ -11,13 +12,12 @@ ghost use Rattle.trellis.specs.Table.{tableOf, shaped as shapedTable, br
 use refusal::Refusal;
 use refusal::Reply;
 
-// 2 to the number of outputs, for 1 to 4 outputs.
-fn word_count(outputs: usize) -> usize
-    requires { ⌜ 1 ≤ outputs ⌝ }
-    requires { ⌜ outputs ≤ 4 ⌝ }
-    ensures { λ r. ⌜ r ≡ 2 ^ outputs ⌝ }
+// How many words there are: 2 to the number of outputs, of which four count.
+pub fn word_count(outputs: usize) -> usize
+    ensures { λ r. ⌜ r ≡ 2 ^ min outputs 4 ⌝ }
 {
     match outputs {
+        0 => 1,
         1 => 2,
         2 => 4,
         3 => 8,
@@ -74,18 +74,29 @@ fn size(x: i16) -> u32
     }
 }
 
-// Every value is within a limit.
+fn inside(x: i16, limit: u32) -> bool
+    ensures { λ r. ⌜ r ≡ insideOf limit x ⌝ }
+{
+    size(x) <= limit
+}
+
+fn both(a: bool, b: bool) -> bool
+    ensures { λ r. ⌜ r ≡ (a && b) ⌝ }
+{
+    if a { b } else { false }
+}
+
+// Every value is within a limit. All are looked at, which is quicker than to stop at the first that is not.
 pub fn all_inside(xs: &[i16], limit: u32) -> bool
     ensures { λ r. ⌜ r ≡ every (insideOf limit) (now (xs .entry)) ⌝ }
 {
+    let mut all = true;
     let mut i: usize = 0;
     while i < xs.len() {
-        if limit < size(xs[i]) {
-            return false;
-        }
+        all = both(all, inside(xs[i], limit));
         i += 1;
     }
-    true
+    all
 }
 
 // The table: 2 and 3.

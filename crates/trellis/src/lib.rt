@@ -5,6 +5,7 @@ pub use checks::all_below;
 pub use checks::all_inside;
 pub use checks::is_systematic;
 pub use checks::table_reply;
+pub use checks::word_count;
 
 // Free with its margin, or forced to a bit.
 pub enum Outcome {

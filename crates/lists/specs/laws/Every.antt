@@ -2,11 +2,12 @@
 -- Assumes nothing.
 use mathlib.Core.Path.{_≡_, refl, sym, ap, _∙_}
 use mathlib.Core.Logic.{⊎-elim}
-use mathlib.Core.Bool.{Bool, true, false, _||_, false≢true}
+use mathlib.Core.Bool.{Bool, true, false, _&&_, _||_, false≢true}
 use mathlib.Core.List.{List, [], _∷_, _++_}
-use Prim.Native.Nat.{ℕ, zero, suc, _<_}
+use Prim.Native.Nat.{ℕ, zero, suc, _+_, _<_}
+use native.Mathlib.Numerals.{add-one}
 use native.Mathlib.Omega.{arith}
-use lib.ListN.{length, getD, replicate}
+use lib.ListN.{length, getD, take, replicate}
 use Rattle.lists.specs.Lists.{every, any, upto}
 use Rattle.lists.specs.laws.Listed.{listed-length, listed-at}
 use Rattle.lists.specs.laws.Tests.{and-left, and-right, and-both, and-true, or-cases}
@@ -23,6 +24,25 @@ module _ {A : Type 0} (f : A → Bool) where
   every-replicate (suc n) x e = and-true e (every-replicate n x e)
 
 module _ {A : Type 0} (f : A → Bool) (d : A) where
+  -- one entry more
+  every-suc : (xs : List A) (i : ℕ) → i < length xs → every f (take (suc i) xs) ≡ (every f (take i xs) && f (getD xs i d))
+  unfolding every
+  every-suc [] i h = absurd (omega arith)
+  every-suc (x ∷ xs) zero h = go (f x)
+    where
+      go : (t : Bool) → (t && true) ≡ (true && t)
+      go true = refl
+      go false = refl
+  every-suc (x ∷ xs) (suc i) h = go (f x) (every-suc xs i (omega arith))
+    where
+      go : (t : Bool) → every f (take (suc i) xs) ≡ (every f (take i xs) && f (getD xs i d))
+          → (t && every f (take (suc i) xs)) ≡ ((t && every f (take i xs)) && f (getD xs i d))
+      go true e = e
+      go false e = refl
+
+  pub every-take : (xs : List A) (i : ℕ) → i < length xs → every f (take (i + 1) xs) ≡ (every f (take i xs) && f (getD xs i d))
+  every-take xs i h = rw add-one (every-suc xs i h)
+
   pub every-at : (xs : List A) → every f xs ≡ true → (i : ℕ) → i < length xs → f (getD xs i d) ≡ true
   unfolding every
   every-at [] e i h = absurd (omega arith)

@@ -3,15 +3,15 @@
 use mathlib.Core.Path.{_≡_}
 use mathlib.Core.Bool.{true}
 use mathlib.Core.List.{List}
-use Prim.Native.Nat.{ℕ, _+_, _*_, _<_, _≤_}
-use lib.IntN.{ℤ, pos}
-use lib.ListN.{length, getD}
+use Prim.Native.Nat.{ℕ, _*_, _<_}
+use lib.IntN.{ℤ}
+use lib.ListN.{length}
 use Rattle.trellis.specs.Table.{Table, shaped, branched}
 use Rattle.trellis.specs.Path.{Values}
 use Rattle.trellis.specs.Limits.{sectionsFit, channelFits, aprioriFits}
 use Rattle.trellis.specs.laws.Sweeps.{boundary, forward}
 use Rattle.siso.specs.Decode.{Lent}
-use Rattle.siso.specs.laws.Held.{there, metricOf}
+use Rattle.siso.specs.laws.Held.{rowAt}
 
 -- the pass: a table, its sections and its values, all within their limits, with lists of their exact lengths
 pub record Pass (t : Table) (n : ℕ) (v : Values) : Type 0 where
@@ -30,6 +30,6 @@ pub record Sized (l : Lent) (marks margins extrinsics work : ℕ) : Type 0 where
   pub extrinsics-sized : length (l .extrinsics) ≡ extrinsics
   pub work-sized : length (l .work) ≡ work
 
--- the working list holds the forward rows before the sections up to section k
+-- the working list holds the forward rows before the first k sections
 pub record Forward (t : Table) (v : Values) (k : ℕ) (work : List ℤ) : Type 0 where
-  pub rows : (j s : ℕ) → j ≤ k → s < t .states → there (metricOf (getD work (t .states * j + s) (pos 0))) ≡ forward t v boundary j s
+  pub rows : (j s : ℕ) → j < k → s < t .states → rowAt work (t .states * j) s ≡ forward t v boundary j s

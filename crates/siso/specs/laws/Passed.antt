@@ -1,13 +1,13 @@
 -- What a pass within its limits tells: the limits as orders, branches that lead to states and bear short words, values within their bounds, and
 -- metrics that never exceed 50,311,168.
 -- Assumes nothing.
-use Prim.Native.Nat.{ℕ, _-_, _^_, _≤_, _<_}
+use Prim.Native.Nat.{ℕ, _-_, _*_, _^_, _≤_, _<_}
 use native.Mathlib.Omega.{arith}
 use lib.Dec.{leb, ltb}
 use lib.ListN.{getD}
-use lib.Pow.{pow-mono}
 use borrow.Author.Tests.{leb-true, ltb-true}
 use Rattle.integers.specs.laws.Bounds.{Within}
+use Rattle.lists.specs.Lists.{every}
 use Rattle.lists.specs.laws.Tests.{and-both, and-right}
 use Rattle.lists.specs.laws.Every.{every-at}
 use Rattle.trellis.specs.Table.{Table, branched}
@@ -17,7 +17,6 @@ use Rattle.trellis.specs.laws.Branches.{Shaped, shaped-is}
 use Rattle.trellis.specs.laws.Sweeps.{Closed, closed, boundary, forward, backward, meet}
 use Rattle.trellis.specs.laws.Sizes.{Bounded, Small, small-boundary, small-forward, small-backward, small-meet}
 use Rattle.trellis.specs.laws.Sizes.{branchLimit, metricLimit, limits-bound, branch-limit, metric-limit}
-use Rattle.siso.specs.laws.Held.{Branches}
 use Rattle.siso.specs.laws.Pass.{Pass}
 
 module _ {t : Table} {n : ℕ} {v : Values} (p : Pass t n v) where
@@ -33,20 +32,17 @@ module _ {t : Table} {n : ℕ} {v : Values} (p : Pass t n v) where
   unfolding sectionsFit
   few-sections = leb-true n sectionLimit (and-right (leb 1 n) _ (p .fits))
 
-  -- every word is below 2^4, since there are at most 4 outputs
-  pub table-branches : Branches (t .states) (t .next) (t .words)
+  -- where a branch leads is a state, and its word one of the outputs'
+  pub table-stays : (i : ℕ) → i < 2 * t .states → getD (t .next) i 0 < t .states
   unfolding branched
-  table-branches =
-      let (next, words) = and-both _ _ (p .branches) in
-      record {
-        few = table-limits .most-states;
-        nexts = table-limits .next-length;
-        all-words = table-limits .words-length;
-        stays = λ i h. ltb-true _ _ (every-at (λ s. ltb s (t .states)) 0 (t .next) next i (omega (arith, table-limits)));
-        short = λ i h.
-            let word = every-at (λ w. ltb w (2 ^ t .outputs)) 0 (t .words) words i (omega (arith, table-limits)) in
-            omega (arith, ltb-true (getD (t .words) i 0) (2 ^ t .outputs) word, pow-mono (table-limits .most-outputs));
-      }
+  table-stays i h =
+      ltb-true _ _ (every-at (λ s. ltb s (t .states)) 0 (t .next) (and-both _ _ (p .branches) .0) i (omega (arith, table-limits)))
+
+  pub table-words : (i : ℕ) → i < 2 * t .states → getD (t .words) i 0 < 2 ^ t .outputs
+  unfolding branched
+  table-words i h =
+      ltb-true _ _
+      (every-at (λ w. ltb w (2 ^ t .outputs)) 0 (t .words) (and-both (every (λ s. ltb s (t .states)) (t .next)) _ (p .branches) .1) i (omega (arith, table-limits)))
 
   -- ---- the values
 

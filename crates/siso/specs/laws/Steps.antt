@@ -15,8 +15,7 @@ use Rattle.trellis.specs.laws.MaxPlus.{plus}
 use Rattle.trellis.specs.laws.Over.{over, over-ext}
 use Rattle.trellis.specs.laws.Sweeps.{Row, boundary, arriving, advance, departing, retreat, passing}
 use Rattle.trellis.specs.laws.Sweeps.{arrival, forwardStep, forward, forward-step, departure, backwardStep, backward, backward-step, through, meet}
-use Rattle.siso.specs.declared.metric.Metric.{Metric}
-use Rattle.siso.specs.laws.Held.{row, targetOf, branchMetricOf, Held}
+use Rattle.siso.specs.laws.Held.{targetOf, branchMetricOf, Held}
 use Rattle.siso.specs.laws.Pass.{Pass}
 use Rattle.siso.specs.laws.Passed.{table-closed, forward-is-small, backward-is-small}
 use Rattle.siso.specs.laws.Gathered.{Gathered, gathered-branch}
@@ -77,9 +76,9 @@ module _ {t : Table} {n : ℕ} {v : Values} (p : Pass t n v) {k : ℕ} {g : List
 
 -- ---- and its rows are small
 
-module _ {t : Table} {n : ℕ} {v : Values} (p : Pass t n v) (k : ℕ) {m : List Metric} where
-  pub forward-held : k ≤ n → Agree (t .states) (row m) (forward t v boundary k) → Held (t .states) m
+module _ {t : Table} {n : ℕ} {v : Values} (p : Pass t n v) (k : ℕ) {r : Row} where
+  pub forward-held : k ≤ n → Agree (t .states) r (forward t v boundary k) → Held (t .states) r
   forward-held h same = record { small = λ s l. rw (same s l) (forward-is-small p k s h) }
 
-  pub backward-held : Agree (t .states) (row m) (backward t v boundary k (n - k)) → Held (t .states) m
+  pub backward-held : Agree (t .states) r (backward t v boundary k (n - k)) → Held (t .states) r
   backward-held same = record { small = λ s l. rw (same s l) (backward-is-small p k s) }

@@ -1,48 +1,51 @@
--- `metric::plus` returns the sum of a metric, if it is there, and a number: both are small, so that the sum fits.
+-- `metric::plus` returns the sum of a metric, if it is there, and a number: both are small, so that the sum fits and is not the reserved word.
 -- Assumes nothing.
-use borrow.Author.Needs.{needs}
 use native.Mathlib.Omega.{arith}
-use mir.Facts.{toZ-ofZ}
+use mathlib.Core.Path.{_≡_}
+use mathlib.Core.Option.{some}
 use mir.Syntax.{w32}
 use mir.Val.{SFits}
 use lib.IntN.{ℤ, _+ℤ_}
 use Rattle.integers.specs.laws.Bounds.{Within}
+use Rattle.integers.specs.laws.Laws.{within-sum}
 use Rattle.integers.specs.laws.Linear.{ints, plain}
 use Rattle.trellis.specs.laws.MaxPlus.{plus}
 use Rattle.trellis.specs.laws.Sizes.{small-known}
+use Rattle.siso.specs.laws.Held.{held}
+use Rattle.siso.proofs.Held.{held-none, held-some, held-small}
 use Rattle.siso.proofs.metric.plus.Statement.{statement}
 use Rattle.siso.proofs.metric.plus.Tie as tie
 
-sum-fits : (a b : ℤ) → Within 100000000 a → Within 100000000 b → SFits w32 (a +ℤ b)
-sum-fits a b = simp ints (omega arith)
+within-fits : (z : ℤ) → Within 200000000 z → SFits w32 z
+within-fits z = simp ints (omega arith)
 
--- the metric that is there
-x-small : (c : tie.After-m) → Within 100000000 (c .m .given .0 .0)
-x-small c = small-known (rw (c .m .given .1) at (c .before .before .pre .0))
+module _ (c : tie.Else1) where
+  abbrev start : tie.Start
+  start = c .before
 
-enum-told : tie.Need-enum-told
-enum-told c = search needs
+  is-there : held (start .args .m) ≡ some (start .args .m)
+  is-there = held-some _ (c .if1 .left)
 
-enum-known-m : tie.Need-enum-known-m
-enum-known-m c = search needs
+  sum-small : Within 200000000 (start .args .m +ℤ start .args .g)
+  sum-small = within-sum (small-known (rw is-there at (start .pre .0))) (start .pre .1)
 
-add-t5 : tie.Need-add-t5
-add-t5 c =
-    let start = c .before .before .before in
-    let x-fits : SFits w32 (c .before .m .given .0 .0) = search needs in
-    let g-fits = start .fits .g in
-    simp plain (sum-fits _ _ (x-small (c .before)) (start .pre .1))
+add-result : tie.Need-add-result
+add-result c =
+    let m-fits = c .before .fits .m in
+    let g-fits = c .before .fits .g in
+    simp plain (within-fits _ (sum-small c))
 
 returns : tie.Need-returns
 unfolding plus
-returns c = rw (c .enum-told .given .1)
+returns c = rw (held-none (c .before .args .m) (c .if1 .taken))
 
 returns-2 : tie.Need-returns-2
 unfolding plus
 returns-2 c =
-    let x-fits : SFits w32 (c .before .m .given .0 .0) = search needs in
-    let g-fits = c .before .before .before .fits .g in
-    rw (toZ-ofZ (add-t5 c), c .before .m .given .1) (simp plain)
+    let m-fits = c .before .fits .m in
+    let g-fits = c .before .fits .g in
+    let sum-fits = within-fits _ (sum-small c) in
+    simp plain (rw (is-there c) (held-small _ (sum-small c)))
 
 pub plus-spec : {M : Type 1} → statement M
-plus-spec = tie.close (tie.spec enum-told enum-known-m add-t5 returns returns-2)
+plus-spec = tie.close (tie.spec add-result returns returns-2)

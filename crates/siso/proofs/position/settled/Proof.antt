@@ -2,8 +2,9 @@
 -- their difference, which fits since both are small.
 -- Assumes nothing.
 use borrow.Author.Needs.{needs}
+use borrow.Author.Tests.{not-true, not-false}
 use native.Mathlib.Omega.{arith}
-use mathlib.Core.Path.{_≡_, refl}
+use mathlib.Core.Path.{_≡_, refl, sym, _∙_}
 use mathlib.Core.Option.{Option, none, some}
 use lib.Dec.{lit<}
 use lib.IntN.{ℤ, pos, _-ℤ_}
@@ -13,9 +14,12 @@ use mir.Val.{SFits}
 use Rattle.integers.specs.laws.Bounds.{Within}
 use Rattle.integers.specs.Integers.{half}
 use Rattle.integers.specs.laws.Linear.{ints, plain}
+use Rattle.lists.specs.Lists.{found}
 use Rattle.trellis.specs.declared.Outcome.the-variants.{Forced}
 use Rattle.trellis.specs.Outcome.{outcomeOf, positionOf, extrinsic}
 use Rattle.trellis.specs.laws.Sizes.{small-known}
+use Rattle.siso.specs.laws.Held.{held}
+use Rattle.siso.proofs.Held.{lost-none, found-some}
 use Rattle.siso.proofs.position.settled.Statement.{statement}
 use Rattle.siso.proofs.position.settled.Tie as tie
 
@@ -40,57 +44,57 @@ Fitting y x i =
 small-fitting : (y x i : ℤ) → Within 100000000 y → Within 100000000 x → Within 9214 i → Fitting y x i
 small-fitting y x i = simp ints (omega arith)
 
-fitting :
-    (c : tie.After-zero)
-    → let one = c .before .before .before in Fitting (one .one .given .0 .0) (c .zero .given .0 .0) (one .before .before .args .intrinsic)
+-- what the tests tell
+one-told : (c : tie.After-reached) → c .reached .result ≡ found (held (c .before .args .one))
+one-told c = let fits = c .before .fits .one in simp plain at (c .reached .ensures)
+
+one-there : (c : tie.Else1) → let one = c .before .before .args .one in held one ≡ some one
+one-there c = found-some _ (sym (one-told (c .before)) ∙ not-false _ (c .if1 .left))
+
+zero-told : (c : tie.After-reached2) → c .reached2 .result ≡ found (held (c .before .before .before .args .zero))
+zero-told c = let fits = c .before .before .before .fits .zero in simp plain at (c .reached2 .ensures)
+
+zero-there : (c : tie.Else2) → let zero = c .before .before .before .before .args .zero in held zero ≡ some zero
+zero-there c = found-some _ (sym (zero-told (c .before)) ∙ not-false _ (c .if2 .left))
+
+fitting : (c : tie.Else2) → let args = c .before .before .before .before .args in Fitting (args .one) (args .zero) (args .intrinsic)
 fitting c =
-    let one = c .before .before .before in
-    let (zero-small, (one-small, (intrinsic-small, known))) = one .before .before .pre in
-    small-fitting
-    _
-    _
-    _
-    (small-known (rw (one .one .given .1) at one-small))
-    (small-known (rw (c .zero .given .1) at zero-small))
-    intrinsic-small
+    let (zero-small, (one-small, (intrinsic-small, known))) = c .before .before .before .before .pre in
+    small-fitting _ _ _ (small-known (rw (one-there (c .before .before)) at one-small)) (small-known (rw (zero-there c) at zero-small)) intrinsic-small
 
-enum-told : tie.Need-enum-told
-enum-told c = search needs
-
-enum-known-one : tie.Need-enum-known-one
-enum-known-one c = search needs
-
-enum-told-2 : tie.Need-enum-told-2
-enum-told-2 c = search needs
-
-enum-known-zero : tie.Need-enum-known-zero
-enum-known-zero c = search needs
-
-sub-margin : tie.Need-sub-margin
-sub-margin c = let (y, x, i, difference, half, rest) = fitting (c .before) in simp plain difference
-
-div-margin : tie.Need-div-margin
-div-margin c = let (y, x, i, difference, half, rest) = fitting (c .before) in (lit< tt, simp plain half)
-
-sub-t11 : tie.Need-sub-t11
-sub-t11 c = let (y, x, i, difference, half, rest) = fitting (c .before) in simp plain rest
+reached-requires : tie.Need-reached-requires
+reached-requires c κs = search needs
 
 returns : tie.Need-returns
 returns c =
     let start = c .before .before in
-    rw (c .enum-told .given .1) (forced-zero _ (start .args .intrinsic) (rw (c .enum-told .given .1) at (start .pre .1 .1 .1)))
+    let gone = lost-none (start .args .one) (sym (one-told (c .before)) ∙ not-true _ (c .if1 .taken)) in
+    rw gone (forced-zero _ (start .args .intrinsic) (rw gone at (start .pre .1 .1 .1)))
+
+reached-requires-2 : tie.Need-reached-requires-2
+reached-requires-2 c κs = search needs
 
 returns-2 : tie.Need-returns-2
 unfolding outcomeOf positionOf extrinsic
-returns-2 c = rw (c .before .before .before .one .given .1, c .enum-told2 .given .1)
+returns-2 c =
+    let start = c .before .before .before .before in
+    let gone = lost-none (start .args .zero) (sym (zero-told (c .before)) ∙ not-true _ (c .if2 .taken)) in
+    rw (gone, one-there (c .before .before))
+
+sub-margin : tie.Need-sub-margin
+sub-margin c = let (y, x, i, difference, half, rest) = fitting c in simp plain difference
+
+div-margin : tie.Need-div-margin
+div-margin c = let (y, x, i, difference, half, rest) = fitting c in (lit< tt, simp plain half)
+
+sub-t9 : tie.Need-sub-t9
+sub-t9 c = let (y, x, i, difference, half, rest) = fitting c in simp plain rest
 
 returns-3 : tie.Need-returns-3
 unfolding outcomeOf positionOf extrinsic half
 returns-3 c =
-    let (y, x, i, difference, half, rest) = fitting (c .before) in
-    rw (c .before .before .before .before .one .given .1, c .before .zero .given .1) (simp plain)
+    let (y, x, i, difference, half, rest) = fitting c in
+    rw (one-there (c .before .before), zero-there c) (simp plain)
 
 pub settled-spec : {M : Type 1} → statement M
-settled-spec =
-    tie.close
-    (tie.spec enum-told enum-known-one enum-told-2 enum-known-zero sub-margin div-margin sub-t11 returns returns-2 returns-3)
+settled-spec = tie.close (tie.spec reached-requires returns reached-requires-2 returns-2 sub-margin div-margin sub-t9 returns-3)

@@ -4,20 +4,20 @@
 use borrow.Author.Needs.{needs}
 use native.Mathlib.Nat.{add-sub-cancel-left}
 use native.Mathlib.Omega.{arith}
-use mathlib.Core.Path.{_≡_, refl, _∙_}
-use Prim.Native.Nat.{ℕ, suc, _*_, _-_, _≤_, _<_}
+use mathlib.Core.Path.{_≡_, refl, sym, _∙_}
+use Prim.Native.Nat.{ℕ, suc, _+_, _*_, _-_, _^_, _≤_, _<_}
 use lib.IntN.{pos}
-use lib.ListN.{getD}
+use lib.ListN.{length, getD}
 use mir.Facts.{toZ-ofZ}
-use mir.Syntax.{w16}
-use mir.Val.{SFits}
+use mir.Syntax.{w16, w32}
+use mir.Val.{SFits, toZ, ofZ}
 use Rattle.integers.specs.laws.Linear.{plain, fits-of, widen}
 use Rattle.trellis.specs.Table.{Table, tableOf}
 use Rattle.trellis.specs.Path.{Values, aprioriAt}
 use Rattle.trellis.specs.laws.Sweeps.{boundary, backward, backward-end}
 use Rattle.siso.specs.laws.Between.{Between, back-asked, back-is}
 use Rattle.siso.specs.laws.Gathered.{gathered, part-length, part-within}
-use Rattle.siso.specs.laws.Held.{row}
+use Rattle.siso.specs.laws.Held.{held, row, rowAt, bestOf}
 use Rattle.siso.specs.Lent.{valuesOf}
 use Rattle.siso.specs.laws.Pass.{Pass}
 use Rattle.siso.specs.laws.Passed.{table-limits, few-sections}
@@ -29,15 +29,16 @@ use Rattle.siso.proofs.sweep.backward.Statement.{statement}
 use Rattle.siso.proofs.sweep.backward.Tie as tie
 
 abbrev Inv-loop : tie.InvT-loop
-Inv-loop states outputs next words sections channel apriori marks₀ margins₀ extrinsics₀ work sys m₀ left₀ marks margins extrinsics m left =
+Inv-loop states outputs next words sections channel apriori marks₀ margins₀ extrinsics₀ g₀ work sys m₀ left₀ marks margins extrinsics g m left =
     let t = tableOf states outputs next words in
     let v = valuesOf channel apriori in
     (left ≤ sections)
+    × (length g ≡ 2 ^ outputs)
     × Agree states (row m) (backward t v boundary left (sections - left))
     × Written t v sections left marks margins extrinsics
 
 abbrev μ-loop : tie.MeasureT-loop
-μ-loop states outputs next words sections channel apriori marks₀ margins₀ extrinsics₀ work sys m₀ left₀ marks margins extrinsics m left = left
+μ-loop states outputs next words sections channel apriori marks₀ margins₀ extrinsics₀ g₀ work sys m₀ left₀ marks margins extrinsics g m left = left
 
 -- ---- names for what is known at the loop's head
 
@@ -70,8 +71,13 @@ boundary-requires c κs = search needs
 
 loop-holds : tie.Need-loop-holds Inv-loop μ-loop
 loop-holds c =
-    let (pass, (path, (work-long, (forward, (marks-long, (margins-long, extrinsics-long)))))) = c .before .before .before .before .before .pre in
-    (omega arith, λ s l. rw (backward-end _ _ boundary _) (c .boundary .ensures s), written-none _ _ _ marks-long margins-long extrinsics-long)
+    let (pass, (path, (words-many, (work-long, (forward, (marks-long, (margins-long, extrinsics-long))))))) = c .before .before .before .before .before .pre in
+    let few = table-limits pass .most-states in (
+      omega arith,
+      words-many,
+      λ s l. rw (backward-end _ _ boundary _) (c .boundary .ensures s (omega arith)),
+      written-none _ _ _ marks-long margins-long extrinsics-long,
+    )
 
 -- ---- a turn
 
@@ -98,106 +104,144 @@ part-word-metrics-end c = omega (arith, channel-place (pass (c .before)) (here c
 
 word-metrics-requires : tie.Need-word-metrics-requires Inv-loop μ-loop
 word-metrics-requires c κs =
-    let p = pass (c .before .before) in
-    let inside = here (c .before) in
-    rw add-sub-cancel-left (omega (arith, part-length p _ inside, table-limits p), part-within p _ inside)
-
-mul-load : tie.Need-mul-load Inv-loop μ-loop
-mul-load c = let at = c .before .before .before in omega (arith, work-place (pass at) {k = section at} (omega arith))
-
-load-requires : tie.Need-load-requires Inv-loop μ-loop
-load-requires c κs =
-    let at = c .before .before .before in
-    omega (arith, table-limits (pass at), work-place (pass at) {k = section at} (omega arith), start at .pre .1 .1 .0)
+    let turn = c .before .before in
+    let p = pass (turn .before) in
+    rw add-sub-cancel-left (omega (arith, part-length p _ (here turn), table-limits p), part-within p _ (here turn))
 
 -- the values of the turn's section, and the metrics on both sides of it
 between :
-    (c : tie.After-load Inv-loop μ-loop)
+    (c : tie.After-word-metrics Inv-loop μ-loop)
     → let at = c .before .before .before .before in
-    Between (table at) (values at) (start at .args .sections) (section at) (c .before .word-metrics .result) (c .load .result) (at .loop .m)
+    let args = start at .args in
+    Between (table at) (values at) (args .sections) (section at) (c .word-metrics .last .1 .0)
+    (rowAt (args .work .now) (args .states * section at)) (row (at .loop .m))
 between c =
-    let in-loop = c .before .before .before in
-    let at = in-loop .before in
+    let turn = c .before .before .before in
+    let at = turn .before in
+    let same-length = c .word-metrics .kept .1 .0 in
     let next : suc (section at) ≡ at .loop .left = omega arith in
     record {
-      values = gathered (pass at) (here in-loop) _ (rw add-sub-cancel-left at (c .before .word-metrics .ensures)) refl;
-      before = λ s l. c .load .ensures s l ∙ start at .pre .1 .1 .1 .0 .rows (section at) s (omega arith) l;
-      after = rw next (at .loop .inv .1);
+      values =
+          gathered (pass at) (here turn) _ (same-length ∙ at .loop .inv .1) (rw (add-sub-cancel-left, ← same-length) at (c .word-metrics .ensures)) refl;
+      before = λ s l. start at .pre .1 .1 .1 .1 .0 .rows (section at) s (here turn) l;
+      after = rw next (at .loop .inv .2);
     }
 
 mul-a : tie.Need-mul-a Inv-loop μ-loop
-mul-a c = let in-loop = c .before .before .before in omega (arith, here in-loop, few-sections (pass (in-loop .before)))
+mul-a c = let turn = c .before .before .before .before in omega (arith, here turn, few-sections (pass (turn .before)))
 
 shared-slice-copy-out-a : tie.Need-shared-slice-copy-out-a Inv-loop μ-loop
-shared-slice-copy-out-a c = let in-loop = c .before .before .before in omega (arith, here in-loop, pass (in-loop .before) .apriori-long)
+shared-slice-copy-out-a c = let turn = c .before .before .before .before in omega (arith, here turn, pass (turn .before) .apriori-long)
 
 -- the a-priori value that is read
 apriori-fits :
     (c : tie.After-a Inv-loop μ-loop)
-    → let at = c .before .before .before .before .before in SFits w16 (getD (start at .args .apriori .now) (section at) (pos 0))
+    → let at = c .before .before .before .before .before .before in SFits w16 (getD (start at .args .apriori .now) (section at) (pos 0))
 apriori-fits c = fits-of (c .a .given)
 
-mul-settle : tie.Need-mul-settle Inv-loop μ-loop
-mul-settle c = let in-loop = c .before .before .before .before in omega (arith, channel-place (pass (in-loop .before)) (here in-loop))
-
-shared-slice-copy-out-settle : tie.Need-shared-slice-copy-out-settle Inv-loop μ-loop
-shared-slice-copy-out-settle c = let in-loop = c .before .before .before .before in omega (arith, channel-place (pass (in-loop .before)) (here in-loop))
-
--- the channel value that is read
-channel-fits :
-    (c : tie.After-settle-arg Inv-loop μ-loop)
-    → let at = c .before .before .before .before .before .before in
-    SFits w16 (getD (start at .args .channel .now) (start at .args .outputs * section at) (pos 0))
-channel-fits c = fits-of (c .settle-arg .given)
-
-settle-requires : tie.Need-settle-requires Inv-loop μ-loop
-unfolding aprioriAt
-settle-requires c κs =
-    let load = c .before .before in
-    let in-loop = load .before .before .before in
-    let at = in-loop .before in
-    settling (pass at) (here in-loop) (between load) (toZ-ofZ (channel-fits c)) (toZ-ofZ (apriori-fits (c .before))) (start at .pre .1 .0)
-
 cast-backwards : tie.Need-cast-backwards Inv-loop μ-loop
-cast-backwards c = let fits = apriori-fits (c .before .before) in simp plain (widen fits)
+cast-backwards c = let fits = apriori-fits (c .before) in simp plain (widen fits)
+
+-- the row of the section stands within the working list
+row-fits :
+    (c : tie.In-loop Inv-loop μ-loop)
+    → let args = start (c .before) .args in
+    (args .states * section (c .before) + args .states ≤ length (args .work .now)) × (length (args .work .now) ≤ 65552)
+row-fits c = let at = c .before in rw (start at .pre .1 .1 .1 .0) (work-place (pass at) {k = section at} (omega arith))
+
+mul-backwards : tie.Need-mul-backwards Inv-loop μ-loop
+mul-backwards c = omega (arith, row-fits (c .before .before .before .before .before .before))
 
 backwards-requires : tie.Need-backwards-requires Inv-loop μ-loop
 unfolding aprioriAt
 backwards-requires c κs =
-    let fits = apriori-fits (c .before .before) in
-    let load = c .before .before .before in
-    let in-loop = load .before .before .before in
-    simp plain (back-asked (pass (in-loop .before)) (here in-loop) (between load))
+    let fits = apriori-fits (c .before) in
+    let worded = c .before .before .before in
+    let turn = worded .before .before .before in
+    let (branches, (after, before)) = back-asked (pass (turn .before)) (here turn) (between worded) in
+    simp plain (branches, (after, (row-fits turn .0, before)))
+
+mul-settle : tie.Need-mul-settle Inv-loop μ-loop
+mul-settle c =
+    let turn = c .before .before .before .before .before .before .before in
+    omega (arith, channel-place (pass (turn .before)) (here turn))
+
+shared-slice-copy-out-settle : tie.Need-shared-slice-copy-out-settle Inv-loop μ-loop
+shared-slice-copy-out-settle c =
+    let turn = c .before .before .before .before .before .before .before in
+    omega (arith, channel-place (pass (turn .before)) (here turn))
+
+-- the channel value that is read
+channel-fits :
+    (c : tie.After-settle-arg Inv-loop μ-loop)
+    → let at = c .before .before .before .before .before .before .before .before .before in
+    SFits w16 (getD (start at .args .channel .now) (start at .args .outputs * section at) (pos 0))
+channel-fits c = fits-of (c .settle-arg .given)
+
+-- the best metrics with bit 0 and with bit 1 are words
+best-fits : (c : tie.After-struct-told2 Inv-loop μ-loop) → let b = c .before .before .before .backwards .result in SFits w32 (b .zero) × SFits w32 (b .one)
+best-fits c = let told = c .struct-told2 .given in (search needs, search needs)
+
+-- and the section's
+bests :
+    (c : tie.After-struct-told2 Inv-loop μ-loop)
+    → let b = c .before .before .before .backwards .result in
+    let worded = c .before .before .before .before .before .before .before in
+    let at = worded .before .before .before .before in
+    let args = start at .args in
+    let best = bestOf (args .states) (args .next .now) (args .words .now) (worded .word-metrics .last .1 .0) (aprioriAt (values at) (section at))
+    (rowAt (args .work .now) (args .states * section at)) (row (at .loop .m)) in
+    (held (toZ w32 (ofZ w32 (b .zero))) ≡ best 0) × (held (toZ w32 (ofZ w32 (b .one))) ≡ best 1)
+unfolding aprioriAt
+bests c =
+    let (zero-fits, one-fits) = best-fits c in
+    let back = c .before .before .before in
+    let fits = apriori-fits (back .before .before) in
+    simp plain (simp plain at (back .backwards .ensures .1))
+
+settle-requires : tie.Need-settle-requires Inv-loop μ-loop
+unfolding aprioriAt
+settle-requires c κs =
+    let a-read = c .before .before .before .before .before in
+    let worded = a-read .before .before in
+    let turn = worded .before .before .before in
+    let at = turn .before in
+    let y-is = toZ-ofZ (channel-fits (c .before .before)) in
+    settling (pass at) (here turn) (between worded) (bests c .0) (bests c .1) y-is (toZ-ofZ (apriori-fits a-read)) (start at .pre .1 .0)
 
 put-requires : tie.Need-put-requires Inv-loop μ-loop
 put-requires c κs =
-    let in-loop = c .before .before .before .before .before .before .before .before .before .before in
-    let inside = here in-loop in
-    let written = in-loop .before .loop .inv .2 in
+    let turn = c .before .before .before .before .before .before .before .before .before .before .before .before .before .before .before in
+    let inside = here turn in
+    let written = turn .before .loop .inv .3 in
     omega arith
 
 loop-less : tie.Need-loop-less Inv-loop μ-loop
 loop-less c =
-    let in-loop = c .before .before .before .before .before .before .before .before .before .before .before .before .before .before .before in
-    omega (arith, in-loop .loop-test .taken)
+    let turn = c .before .before .before .before .before .before .before .before .before .before .before .before .before .before .before .before .before .before .before .before in
+    omega (arith, turn .loop-test .taken)
 
 loop-again : tie.Need-loop-again Inv-loop μ-loop
 unfolding aprioriAt
 loop-again c =
     let put = c .before .before .before .before in
-    let back = put .before .before .before .before in
-    let settle = back .before in
-    let y-is = toZ-ofZ (channel-fits (settle .before)) in
-    let fits = apriori-fits (settle .before .before) in
-    let load = settle .before .before .before in
-    let in-loop = load .before .before .before in
-    let at = in-loop .before in
-    let inside = here in-loop in
-    let settled = settle .settle .ensures ∙ settled-is (pass at) inside (between load) y-is (toZ-ofZ fits) (at .before .before .is-systematic .ensures) in
+    let settle = put .before .before .before .before .before in
+    let told = settle .before in
+    let y-is = toZ-ofZ (channel-fits (told .before .before)) in
+    let back = told .before .before .before in
+    let a-read = back .before .before in
+    let fits = apriori-fits a-read in
+    let worded = a-read .before .before in
+    let turn = worded .before .before .before in
+    let at = turn .before in
+    let settled =
+    settle .settle .ensures
+    ∙ settled-is (pass at) (here turn) (between worded) (bests told .0) (bests told .1) y-is (toZ-ofZ fits) (at .before .before .is-systematic .ensures) in
     let (marks-set, (margins-set, extrinsics-set)) = put .put .ensures in (
       omega arith,
-      λ s l. (simp plain at (back .backwards .ensures s l)) ∙ back-is (pass at) inside (between load) s l,
-      written-more (in-loop .loop-test .taken) (at .loop .inv .0) (at .loop .inv .2) settled marks-set margins-set extrinsics-set,
+      between worded .values .many,
+      λ s l. (simp plain at (back .backwards .ensures .0 s l)) ∙ back-is (pass at) (here turn) (between worded) s l,
+      written-more (turn .loop-test .taken) (at .loop .inv .0) (at .loop .inv .3) settled marks-set margins-set extrinsics-set,
     )
 
 -- ---- after the loop
@@ -211,8 +255,11 @@ same-length-2 c = omega arith
 same-length-3 : tie.Need-same-length-3 Inv-loop μ-loop
 same-length-3 c = omega arith
 
+same-length-4 : tie.Need-same-length-4 Inv-loop μ-loop
+same-length-4 c = c .before .loop .inv .1 ∙ sym (start (c .before) .pre .1 .1 .0)
+
 returns : tie.Need-returns Inv-loop μ-loop
-returns c = written-all (c .loop-test .left) (c .before .loop .inv .2)
+returns c = written-all (c .loop-test .left) (c .before .loop .inv .3)
 
 pub backward-spec : {M : Type 1} → statement M
 backward-spec =
@@ -231,19 +278,19 @@ backward-spec =
     part-word-metrics-start
     part-word-metrics-end
     word-metrics-requires
-    mul-load
-    load-requires
     mul-a
     shared-slice-copy-out-a
+    cast-backwards
+    mul-backwards
+    backwards-requires
     mul-settle
     shared-slice-copy-out-settle
     settle-requires
-    cast-backwards
-    backwards-requires
     put-requires
     loop-less
     loop-again
     same-length
     same-length-2
     same-length-3
+    same-length-4
     returns)

@@ -1,71 +1,48 @@
--- `sweep::settle` returns the position of the two best metrics at a section and the intrinsic part there.
+-- `sweep::settle` returns the position of two best metrics, with the intrinsic part of its section, which is small since both values are.
 -- Assumes nothing.
-use mathlib.Core.Bool.{cond}
+use mathlib.Core.Bool.{Bool, true, false, cond}
 use mathlib.Core.Path.{_≡_}
-use native.Mathlib.Omega.{arith}
-use lib.IntN.{pos, _+ℤ_}
-use mir.Syntax.{w32}
-use mir.Val.{SFits}
-use borrow.Author.Needs.{needs}
-use Rattle.integers.specs.laws.Linear.{plain, widen}
-use Rattle.siso.specs.laws.Held.{there, bestOf}
-use Rattle.siso.proofs.Settled.{told-within}
+use lib.IntN.{ℤ, pos, _+ℤ_}
+use Rattle.integers.specs.laws.Bounds.{Within}
+use Rattle.integers.specs.laws.Laws.{within-zero, within-sum}
+use Rattle.integers.specs.laws.Linear.{plain}
 use Rattle.siso.proofs.sweep.settle.Statement.{statement}
 use Rattle.siso.proofs.sweep.settle.Tie as tie
 
-cast-wide : tie.Need-cast-wide
-cast-wide c = let a = c .before .before .fits .a in simp plain (widen a)
-
-best-requires : tie.Need-best-requires
-best-requires c κs =
-    let start = c .before .before in
-    let a = start .fits .a in
-    let pre = start .pre in
-    simp plain (pre .branches, (pre .branch-metrics, (pre .before, (pre .after, omega arith))))
-
-best-requires-2 : tie.Need-best-requires-2
-best-requires-2 c κs =
-    let start = c .before .before .before in
-    let a = start .fits .a in
-    let pre = start .pre in
-    simp plain (pre .branches, (pre .branch-metrics, (pre .before, (pre .after, omega arith))))
+-- it is small, whether the table is systematic or not
+told-within : {a y : ℤ} (sys : Bool) → Within 8191 a → Within 1023 y → Within 9214 (a +ℤ cond sys y (pos 0))
+told-within true a-small y-small = within-sum a-small y-small
+told-within false a-small y-small = within-sum a-small (within-zero 1023)
 
 intrinsic-requires : tie.Need-intrinsic-requires
 intrinsic-requires c κs =
-    let start = c .before .before .before .before in
-    let a = start .fits .a in
-    let y = start .fits .y in
-    simp plain (start .pre .channel, start .pre .branch-metrics .apriori)
+    let y-fits = c .fits .y in
+    let a-fits = c .fits .a in
+    simp plain (c .pre .1 .1 .1)
 
--- both best metrics, and the intrinsic part
-found :
-    (c : tie.After-intrinsic)
-    → let both = c .before in
-    let args = both .before .before .before .before .args in
-    (there (both .before .best .result) ≡ bestOf (args .states) (args .next .now) (args .words .now) (args .g) (args .a) (args .f) (args .m) 0)
-    × (there (both .best2 .result) ≡ bestOf (args .states) (args .next .now) (args .words .now) (args .g) (args .a) (args .f) (args .m) 1)
-    × (c .intrinsic .result ≡ args .a +ℤ cond (args .sys) (args .y) (pos 0))
-found c =
-    let both = c .before in
-    let a = both .before .before .before .before .fits .a in
-    let y = both .before .before .before .before .fits .y in
-    (simp plain at (both .before .best .ensures), simp plain at (both .best2 .ensures), simp plain at (c .intrinsic .ensures))
+-- the intrinsic part, as it is computed
+told : (c : tie.After-intrinsic) → let args = c .before .args in c .intrinsic .result ≡ args .a +ℤ cond (args .sys) (args .y) (pos 0)
+told c =
+    let y-fits = c .before .fits .y in
+    let a-fits = c .before .fits .a in
+    simp plain at (c .intrinsic .ensures)
 
 settled-requires : tie.Need-settled-requires
 settled-requires c κs =
-    let told : SFits w32 (c .intrinsic .result) = search needs in
-    let start = c .before .before .before .before .before in
-    let pre = start .pre in
-    let (zero, one, part) = found c in
-    simp plain
-    (rw (zero, one, part)
-    (pre .small 0 (omega arith), (pre .small 1 (omega arith), (told-within (start .args .sys) (pre .branch-metrics .apriori) (pre .channel), pre .path))))
+    let start = c .before in
+    let zero-fits = start .fits .zero in
+    let one-fits = start .fits .one in
+    let told-fits = c .intrinsic .ok in
+    let (zero-small, (one-small, (path, (y-small, a-small)))) = start .pre in
+    simp plain (zero-small, (one-small, (rw (told c) (told-within (start .args .sys) a-small y-small), path)))
 
 returns : tie.Need-returns
 returns c =
-    let told : SFits w32 (c .before .intrinsic .result) = search needs in
-    let (zero, one, part) = found (c .before) in
-    rw (zero, one, part) at (simp plain at (c .settled .ensures))
+    let start = c .before .before in
+    let zero-fits = start .fits .zero in
+    let one-fits = start .fits .one in
+    let told-fits = c .before .intrinsic .ok in
+    rw (told (c .before)) at (simp plain at (c .settled .ensures))
 
 pub settle-spec : {M : Type 1} → statement M
-settle-spec = tie.close (tie.spec cast-wide best-requires best-requires-2 intrinsic-requires settled-requires returns)
+settle-spec = tie.close (tie.spec intrinsic-requires settled-requires returns)

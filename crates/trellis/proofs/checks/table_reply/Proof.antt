@@ -2,6 +2,8 @@
 -- Assumes nothing.
 use mathlib.Core.Path.{_≡_, sym, _∙_}
 use mathlib.Core.Bool.{true, and-false}
+use Prim.Native.Nat.{_^_, min}
+use native.Mathlib.Omega.{arith}
 use borrow.Author.Needs.{needs}
 use borrow.Author.Tests.{not-true, not-false}
 use Rattle.refusal.specs.declared.Refusal.the-variants.{Shape, Branch}
@@ -35,8 +37,15 @@ returns-2 c =
     passes-first Shape (is-shaped (c .before .before)) (fails (rw bad))
 
 word-count-requires : tie.Need-word-count-requires
+word-count-requires c κs = search needs
+
+-- there are at most four outputs
+counted : (c : tie.After-word-count) → c .word-count .result ≡ 2 ^ c .before .before .before .before .before .before .before .args .outputs
 unfolding table
-word-count-requires c κs = let s = shaped-is _ (is-shaped (c .before .before)) in (s .some-output, s .most-outputs)
+counted c =
+    let few : min (c .before .before .before .before .before .before .before .args .outputs) 4 ≡ c .before .before .before .before .before .before .before .args .outputs
+    = omega (arith, shaped-is _ (is-shaped (c .before .before .before))) in
+    rw few at (c .word-count .ensures)
 
 all-below-requires-2 : tie.Need-all-below-requires-2
 all-below-requires-2 c κs = search needs
@@ -44,7 +53,7 @@ all-below-requires-2 c κs = search needs
 returns-3 : tie.Need-returns-3
 unfolding table branched
 returns-3 c =
-    let bad = rw (c .before .before .word-count .ensures) at (sym (c .before .all-below2 .ensures) ∙ not-true _ (c .if3 .taken)) in
+    let bad = rw (counted (c .before .before)) at (sym (c .before .all-below2 .ensures) ∙ not-true _ (c .if3 .taken)) in
     passes-first Shape (is-shaped (c .before .before .before .before .before)) (fails (rw (bad, and-false)))
 
 returns-4 : tie.Need-returns-4
@@ -52,7 +61,7 @@ unfolding table branched
 returns-4 c =
     let at = c .before .before .before in
     let next = sym (at .before .all-below .ensures) ∙ not-false _ (at .if2 .left) in
-    let words = rw (c .before .before .word-count .ensures) at (sym (c .before .all-below2 .ensures) ∙ not-false _ (c .if3 .left)) in
+    let words = rw (counted (c .before .before)) at (sym (c .before .all-below2 .ensures) ∙ not-false _ (c .if3 .left)) in
     passes-first Shape (is-shaped (at .before .before)) (sym (check-is-done _ Branch .1 (and-true next words)))
 
 pub table-reply-spec : {M : Type 1} → statement M

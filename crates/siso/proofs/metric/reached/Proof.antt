@@ -1,0 +1,12 @@
+-- `metric::reached` tells whether a word stands for a metric: the definition tests the word's bits, as the code does.
+-- Assumes nothing.
+use mathlib.Core.Path.{sym}
+use Rattle.siso.proofs.Held.{found-held}
+use Rattle.siso.proofs.metric.reached.Statement.{statement}
+use Rattle.siso.proofs.metric.reached.Tie as tie
+
+returns : tie.Need-returns
+returns c = sym (found-held (c .args .x))
+
+pub reached-spec : {M : Type 1} → statement M
+reached-spec = tie.close (tie.spec returns)
