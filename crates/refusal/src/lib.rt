@@ -63,7 +63,7 @@ pub fn number_of(reply: Reply) -> u32
 {
     match reply {
         Reply::Done => 0,
-        Reply::Refused(why) => number_of_refusal(why),
+        Reply::Refused(reason) => number_of_refusal(reason),
     }
 }
 
