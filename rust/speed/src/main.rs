@@ -3,7 +3,10 @@
 //! and each figure is a median over the rounds. Lists are made once; the library's checks, its clearing of the working list and, for the Rust
 //! decoders, the sorting of the frame's values by pass are part of what is timed.
 //!
-//!     speed [ROUNDS]
+//!     speed [ROUNDS [STATES]]
+//!
+//! With a number of states (4, 8 or 16) only that table. With 0 rounds each decoder only decodes the 8 frames once, for a count of instructions:
+//! by_library, by_any_table and by_house_only are functions of their own.
 mod any_table;
 mod code;
 mod house_only;
@@ -70,16 +73,19 @@ impl Said {
     }
 }
 
+#[inline(never)]
 fn by_library(code: &Code, pattern: &[u32], frame: &[i16], said: &mut Said, work: &mut [i32]) -> u32 {
     let Said { bits, margins, extrinsics } = said;
     raw::decode(code.states, 2, &code.next, &code.words, K, T, pattern, &[7], frame, ITERATIONS, bits, margins, extrinsics, work)
 }
 
+#[inline(never)]
 fn by_any_table(d: &mut any_table::Decoder, code: &Code, pattern: &[u32], frame: &[i16], said: &mut Said) {
     let r = Received::of(frame, pattern, T);
     d.decode(code, &r, pattern, ITERATIONS, &mut said.bits, &mut said.margins, &mut said.extrinsics);
 }
 
+#[inline(never)]
 fn by_house_only(d: &mut house_only::Decoder, pattern: &[u32], frame: &[i16], said: &mut Said) {
     let r = Received::of(frame, pattern, T);
     d.decode(&r, pattern, ITERATIONS, &mut said.bits, &mut said.margins, &mut said.extrinsics);
@@ -126,6 +132,9 @@ fn measure(name: &str, code: &Code, is_house: bool, d: &mut Draw, rounds: usize)
             assert_eq!(a, c, "{name}: the library and the decoder for the house code differ");
         }
     }
+    if rounds == 0 {
+        return true;
+    }
     let mut times = [Vec::new(), Vec::new(), Vec::new()];
     for _ in 0..rounds {
         let start = Instant::now();
@@ -164,12 +173,18 @@ fn measure(name: &str, code: &Code, is_house: bool, d: &mut Draw, rounds: usize)
 }
 
 fn main() {
-    let rounds = std::env::args().nth(1).map_or(100, |w| w.parse().expect("a number of rounds"));
+    let mut words = std::env::args().skip(1).map(|w| w.parse::<usize>().expect("a number of rounds, and of states"));
+    let rounds = words.next().unwrap_or(100);
+    let only = words.next();
     println!("{K} bits, {T} tail sections, {ITERATIONS} iterations; {rounds} rounds of {FRAMES} frames");
     let mut d = Draw(1);
-    assert!(measure("house code, 4 states", &house(), true, &mut d, rounds));
+    if only.map_or(true, |states| states == 4) {
+        assert!(measure("house code, 4 states", &house(), true, &mut d, rounds));
+    }
     for states in [8, 16] {
-        // tables are drawn until coder and decoder both take frames of this shape
-        while !measure(&format!("drawn table, {states} states"), &drawn_table(&mut d, states), false, &mut d, rounds) {}
+        if only.map_or(true, |wanted| wanted == states) {
+            // tables are drawn until coder and decoder both take frames of this shape
+            while !measure(&format!("drawn table, {states} states"), &drawn_table(&mut d, states), false, &mut d, rounds) {}
+        }
     }
 }
