@@ -1,19 +1,38 @@
--- Laws of one section as the code holds it: what is read of a branch is inside, it leads to a state, and its metric is small.
+-- Laws of one section as the code holds it: with the metrics of its words, what is read of a branch is inside, it leads to a state, and its metric is small.
 -- Assumes nothing.
+use mathlib.Core.Path.{_≡_, _∙_}
 use mathlib.Core.List.{List}
-use Prim.Native.Nat.{ℕ, _+_, _*_, _<_, _≤_}
+use Prim.Native.Nat.{ℕ, _+_, _*_, _^_, _<_, _≤_}
 use native.Mathlib.Omega.{arith}
 use lib.IntN.{ℤ, pos}
 use lib.ListN.{length, getD}
+use lib.Pow.{pow-mono}
 use Rattle.integers.specs.laws.Bounds.{Within}
-use Rattle.integers.specs.laws.Laws.{within-sum}
+use Rattle.integers.specs.laws.Laws.{within-more, within-sum}
 use Rattle.trellis.specs.laws.Signs.{signed-within}
-use Rattle.trellis.specs.laws.Sizes.{Small, small-more}
+use Rattle.trellis.specs.laws.Sizes.{Small, small-more, word-within}
 use Rattle.trellis.specs.laws.Sweeps.{Row}
-use Rattle.siso.specs.laws.Held.{branchMetricOf, Branches, Held}
+use Rattle.siso.specs.laws.Held.{branchMetricOf, WordMetrics, Ready, Branches, Held}
 
 pub state-small : {states : ℕ} {r : Row} → Held states r → (s : ℕ) → s < states → Small 100000000 (r s)
 state-small h s state = small-more (omega arith) (h .small s state)
+
+-- the metrics of the words of a section that is ready are small
+pub ready-branches :
+    {states : ℕ} {next words : List ℕ} {channel : List ℤ} {room : ℕ} {g : List ℤ} {a : ℤ}
+    → Ready states next words channel room a → length g ≡ room → WordMetrics channel g → Branches states next words g a
+ready-branches {channel} {g} ready same metrics =
+    let many : length g ≡ 2 ^ length channel = same ∙ ready .enough in
+    record {
+      few = ready .few;
+      nexts = ready .nexts;
+      all-words = ready .all-words;
+      stays = ready .stays;
+      known = λ i l. rw many (ready .known i l);
+      few-words = rw many (pow-mono (ready .outputs));
+      word = λ w l. rw (metrics w l) (within-more (omega (arith, ready .outputs)) (word-within w (length channel) (ready .values)));
+      apriori = ready .apriori;
+    }
 
 -- the branch at place i of the lists of a table
 pub record Read (states i : ℕ) (next words : List ℕ) (g : List ℤ) : Type 0 where

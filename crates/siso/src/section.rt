@@ -1,14 +1,14 @@
 // One section: the metrics of its words, and the steps over it forwards and backwards.
 ghost use mathlib.Core.List.{[], _∷_};
 ghost use mathlib.Core.Path.{_≡_};
-ghost use Prim.Native.Nat.{ℕ, _+_, _≤_, _<_};
+ghost use Prim.Native.Nat.{ℕ, _+_, _^_, _≤_, _<_};
 ghost use lib.IntN.{pos, _+ℤ_};
 ghost use lib.ListN.{length, getD};
 ghost use Rattle.integers.specs.laws.Bounds.{Within};
 ghost use Rattle.trellis.specs.Table.{output as outputOf};
 ghost use Rattle.trellis.specs.Path.{signed as signedBy, wordMetric};
 ghost use Rattle.trellis.specs.laws.Sweeps.{advance, retreat};
-ghost use Rattle.siso.specs.laws.Held.{held, row, rowAt, targetOf, branchMetricOf, bestOf, Branches, Held, Saved};
+ghost use Rattle.siso.specs.laws.Held.{held, row, rowAt, targetOf, branchMetricOf, bestOf, WordMetrics, Ready, Held, Saved};
 use crate::metric::NOTHING;
 use crate::metric::larger;
 use crate::metric::plus;
@@ -70,14 +70,24 @@ fn value(channel: &[i16], l: usize) -> i32
     }
 }
 
-// The part of each word in the metric of a section, from the section's channel values.
-pub fn word_metrics(channel: &[i16], g: &mut [i32])
+// The metrics of the words of two outputs.
+fn four_words(y0: i32, y1: i32, g: &mut [i32])
+    requires { ⌜ Within 1023 y0 ⌝ }
+    requires { ⌜ Within 1023 y1 ⌝ }
+    requires { ⌜ length (now g) ≡ 4 ⌝ }
+    ensures { λ _. ⌜ WordMetrics (y0 ∷ y1 ∷ []) (now (g .exit)) ⌝ }
+{
+    g[0] = word_metric(0, y0, y1, 0, 0);
+    g[1] = word_metric(1, y0, y1, 0, 0);
+    g[2] = word_metric(2, y0, y1, 0, 0);
+    g[3] = word_metric(3, y0, y1, 0, 0);
+}
+
+// The metrics of the words of any outputs.
+fn all_words(channel: &[i16], g: &mut [i32])
     requires { ⌜ length (now channel) ≤ 4 ⌝ }
     requires { ⌜ ((l : ℕ) → l < length (now channel) → Within 1023 (getD (now channel) l (pos 0))) ⌝ }
-    ensures { λ _. ⌜
-        ((w : ℕ) → w < length (now (g .entry))
-        → getD (now (g .exit)) w (pos 0)
-        ≡ wordMetric (λ l. getD (now (channel .entry)) l (pos 0)) w (length (now (channel .entry)))) ⌝ }
+    ensures { λ _. ⌜ WordMetrics (now (channel .entry)) (now (g .exit)) ⌝ }
 {
     let y0 = value(channel, 0);
     let y1 = value(channel, 1);
@@ -90,6 +100,20 @@ pub fn word_metrics(channel: &[i16], g: &mut [i32])
     }
 }
 
+// The part of each word in the metric of a section, from the section's channel values. Two outputs, as every frame has, go the short way.
+fn word_metrics(channel: &[i16], g: &mut [i32])
+    requires { ⌜ length (now channel) ≤ 4 ⌝ }
+    requires { ⌜ ((l : ℕ) → l < length (now channel) → Within 1023 (getD (now channel) l (pos 0))) ⌝ }
+    requires { ⌜ length (now g) ≡ 2 ^ length (now channel) ⌝ }
+    ensures { λ _. ⌜ WordMetrics (now (channel .entry)) (now (g .exit)) ⌝ }
+{
+    if channel.len() == 2 {
+        four_words(channel[0] as i32, channel[1] as i32, g);
+    } else {
+        all_words(channel, g);
+    }
+}
+
 // The metric of a branch of bit b: sign × a-priori value, and the part g of the branch's word.
 fn branch_metric(b: usize, a: i32, g: i32) -> i32
     requires { ⌜ Within 8191 a ⌝ }
@@ -99,27 +123,31 @@ fn branch_metric(b: usize, a: i32, g: i32) -> i32
     signed(b, a) + g
 }
 
-// The metrics after a section, from those before it, which are stored in the working list from a place on.
+// The metrics after a section, from those before it, which are stored in the working list from a place on. The list g takes the metrics of
+// the section's words.
 pub fn forwards(
     next: &[u8],
     words: &[u8],
     states: usize,
-    g: &[i32],
+    channel: &[i16],
+    g: &mut [i32],
     a: i32,
     m: [i32; 16],
     work: &mut [i32],
     at: usize,
 ) -> [i32; 16]
-    requires { ⌜ Branches states (now next) (now words) (now g) a ⌝ }
+    requires { ⌜ Ready states (now next) (now words) (now channel) (length (now g)) a ⌝ }
     requires { ⌜ Held states (row m) ⌝ }
     requires { ⌜ at + states ≤ length (now work) ⌝ }
+    ensures { λ _. ⌜ WordMetrics (now (channel .entry)) (now (g .exit)) ⌝ }
     ensures { λ r. ⌜
         ((s : ℕ) → s < 16
         → row r s
-        ≡ advance (targetOf (now (next .entry))) (branchMetricOf (now (words .entry)) (now (g .entry)) a) states
+        ≡ advance (targetOf (now (next .entry))) (branchMetricOf (now (words .entry)) (now (g .exit)) a) states
         (row m) s) ⌝ }
     ensures { λ _. ⌜ Saved m states at (now (work .entry)) (now (work .exit)) ⌝ }
 {
+    word_metrics(channel, g);
     let mut out = [NOTHING; 16];
     let mut s: usize = 0;
     while s < states {
@@ -153,29 +181,32 @@ pub fn backwards(
     next: &[u8],
     words: &[u8],
     states: usize,
-    g: &[i32],
+    channel: &[i16],
+    g: &mut [i32],
     a: i32,
     m: [i32; 16],
     work: &[i32],
     at: usize,
 ) -> Back
-    requires { ⌜ Branches states (now next) (now words) (now g) a ⌝ }
+    requires { ⌜ Ready states (now next) (now words) (now channel) (length (now g)) a ⌝ }
     requires { ⌜ Held states (row m) ⌝ }
     requires { ⌜ at + states ≤ length (now work) ⌝ }
     requires { ⌜ Held states (rowAt (now work) at) ⌝ }
+    ensures { λ _. ⌜ WordMetrics (now (channel .entry)) (now (g .exit)) ⌝ }
     ensures { λ r. ⌜
         ((s : ℕ) → s < states
         → row (r .metrics) s
-        ≡ retreat (targetOf (now (next .entry))) (branchMetricOf (now (words .entry)) (now (g .entry)) a) (row m) s) ⌝ }
+        ≡ retreat (targetOf (now (next .entry))) (branchMetricOf (now (words .entry)) (now (g .exit)) a) (row m) s) ⌝ }
     ensures { λ r. ⌜
         held (r .zero)
-        ≡ bestOf states (now (next .entry)) (now (words .entry)) (now (g .entry)) a
+        ≡ bestOf states (now (next .entry)) (now (words .entry)) (now (g .exit)) a
         (rowAt (now (work .entry)) at) (row m) 0 ⌝ }
     ensures { λ r. ⌜
         held (r .one)
-        ≡ bestOf states (now (next .entry)) (now (words .entry)) (now (g .entry)) a
+        ≡ bestOf states (now (next .entry)) (now (words .entry)) (now (g .exit)) a
         (rowAt (now (work .entry)) at) (row m) 1 ⌝ }
 {
+    word_metrics(channel, g);
     let mut out = [NOTHING; 16];
     let mut zero = NOTHING;
     let mut one = NOTHING;

@@ -55,11 +55,11 @@ fn forward(
     while k < sections {
         let from = outputs * k;
         let to = from + outputs;
-        crate::section::word_metrics(&channel[from..to], g);
         let after = crate::section::forwards(
             next,
             words,
             states,
+            &channel[from..to],
             g,
             apriori[k] as i32,
             m,
@@ -148,9 +148,18 @@ fn backward(
         let k = left - 1;
         let from = outputs * k;
         let to = from + outputs;
-        crate::section::word_metrics(&channel[from..to], g);
         let a = apriori[k];
-        let b = crate::section::backwards(next, words, states, g, a as i32, m, work, states * k);
+        let b = crate::section::backwards(
+            next,
+            words,
+            states,
+            &channel[from..to],
+            g,
+            a as i32,
+            m,
+            work,
+            states * k,
+        );
         let p = settle(b.zero, b.one, sys, channel[from], a);
         let before = b.metrics;
         crate::position::put(k, p, marks, margins, extrinsics);

@@ -3,7 +3,7 @@
 use mathlib.Core.Bool.{Bool, cond}
 use mathlib.Core.List.{List}
 use mathlib.Core.Option.{Option, none, some}
-use Prim.Native.Nat.{ℕ, _+_, _*_, _<_, _≤_}
+use Prim.Native.Nat.{ℕ, _+_, _*_, _^_, _<_, _≤_}
 use mathlib.Core.Path.{_≡_}
 use lib.Dec.{eqb}
 use lib.IntN.{ℤ, pos, _+ℤ_}
@@ -11,7 +11,7 @@ use lib.ListN.{length, getD}
 use mir.Syntax.{w32}
 use mir.Val.{ofZ}
 use Rattle.integers.specs.laws.Bounds.{Within}
-use Rattle.trellis.specs.Path.{signed}
+use Rattle.trellis.specs.Path.{signed, wordMetric}
 use Rattle.trellis.specs.laws.Over.{over}
 use Rattle.trellis.specs.laws.Sizes.{Small}
 use Rattle.trellis.specs.laws.Sweeps.{Row, passing}
@@ -56,7 +56,23 @@ branchMetricOf words g a s b = signed b a +ℤ getD g (getD words (2 * s + b) 0)
 abbrev pub bestOf : ℕ → List ℕ → List ℕ → List ℤ → ℤ → Row → Row → ℕ → Option ℤ
 bestOf states next words g a f m b = over states (passing (targetOf next) (branchMetricOf words g a) f m b)
 
--- the two lists of a table with at most sixteen states, and small metrics of its words and a-priori value
+-- the metrics of a section's words, from its channel values
+abbrev pub WordMetrics : List ℤ → List ℤ → Type 0
+WordMetrics channel g = (w : ℕ) → w < length g → getD g w (pos 0) ≡ wordMetric (λ l. getD channel l (pos 0)) w (length channel)
+
+-- the two lists of a table with at most sixteen states, and a section's values within their limits, where there is room for a metric of each word
+pub record Ready (states : ℕ) (next words : List ℕ) (channel : List ℤ) (room : ℕ) (a : ℤ) : Type 0 where
+  pub few : states ≤ 16
+  pub nexts : length next ≡ 2 * states
+  pub all-words : length words ≡ 2 * states
+  pub stays : (i : ℕ) → i < 2 * states → getD next i 0 < states
+  pub known : (i : ℕ) → i < 2 * states → getD words i 0 < 2 ^ length channel
+  pub outputs : length channel ≤ 4
+  pub enough : room ≡ 2 ^ length channel
+  pub values : (l : ℕ) → l < length channel → Within 1023 (getD channel l (pos 0))
+  pub apriori : Within 8191 a
+
+-- the same with the metrics of the words, which are small
 pub record Branches (states : ℕ) (next words : List ℕ) (g : List ℤ) (a : ℤ) : Type 0 where
   pub few : states ≤ 16
   pub nexts : length next ≡ 2 * states

@@ -1,9 +1,10 @@
--- `section::backwards` returns the row before a section, and the best metrics with either bit. The invariant: the first s states have the best of going
--- on with either bit, and the best metrics so far are those of the paths through these states.
+-- `section::backwards` writes the metrics of a section's words, and returns the row before the section and the best metrics with either bit. The
+-- invariant: the first s states have the best of going on with either bit, and the best metrics so far are those of the paths through these states.
 -- Assumes nothing.
 use borrow.Author.Needs.{needs}
 use native.Mathlib.Omega.{arith}
 use mathlib.Core.Path.{_≡_, refl, sym, ap₂, _∙_}
+use mathlib.Core.List.{List}
 use Prim.Native.Nat.{ℕ, _+_, _*_, _-_, _≤_, _<_}
 use native.Mathlib.Nat.{add-zero}
 use lib.IntN.{ℤ, pos}
@@ -18,15 +19,15 @@ use Rattle.trellis.specs.Outcome.{larger}
 use Rattle.trellis.specs.laws.MaxPlus.{plus-comm}
 use Rattle.trellis.specs.laws.Over.{over-zero}
 use Rattle.trellis.specs.laws.Sweeps.{departing, retreat, passing}
-use Rattle.siso.specs.laws.Held.{held, row, rowAt, targetOf, branchMetricOf, bestOf}
-use Rattle.siso.proofs.Branch.{state-small, Read, branch-read, branch-small}
+use Rattle.siso.specs.laws.Held.{held, row, rowAt, targetOf, branchMetricOf, bestOf, Branches}
+use Rattle.siso.proofs.Branch.{state-small, Read, ready-branches, branch-read, branch-small}
 use Rattle.siso.proofs.Rows.{kept, one-more}
 use Rattle.siso.proofs.Steps.{over-more}
 use Rattle.siso.proofs.section.backwards.Statement.{statement}
 use Rattle.siso.proofs.section.backwards.Tie as tie
 
 abbrev Inv-loop : tie.InvT-loop
-Inv-loop next words states g a work at m out₀ zero₀ one₀ s₀ out zero one s =
+Inv-loop next words states channel g a work at m out₀ zero₀ one₀ s₀ out zero one s =
     (s ≤ states)
     × (length out ≡ 16)
     × ((j : ℕ) → j < s → row out j ≡ retreat (targetOf next) (branchMetricOf words g (toZ w32 a)) (row m) j)
@@ -34,37 +35,46 @@ Inv-loop next words states g a work at m out₀ zero₀ one₀ s₀ out zero one
     × (held (toZ w32 one) ≡ bestOf s next words g (toZ w32 a) (rowAt work at) (row m) 1)
 
 abbrev μ-loop : tie.MeasureT-loop
-μ-loop next words states g a work at m out₀ zero₀ one₀ s₀ out zero one s = states - s
+μ-loop next words states channel g a work at m out₀ zero₀ one₀ s₀ out zero one s = states - s
 
 -- a turn of the loop
 module _ (c : tie.In-loop Inv-loop μ-loop) where
   abbrev start : tie.Start Inv-loop μ-loop
-  start = c .before .before .before .before
+  start = c .before .before .before .before .before .before .before
 
   abbrev s : ℕ
   s = c .before .loop .s
+
+  -- the metrics of the section's words
+  abbrev g : List ℤ
+  g = c .before .before .before .word-metrics .last .1 .0
+
+  branches : Branches (start .args .states) (start .args .next .now) (start .args .words .now) g (start .args .a)
+  branches =
+      let called = c .before .before .before .word-metrics in
+      ready-branches (start .pre .0) (called .kept .1 .0) (called .ensures)
 
   abbrev target : ℕ → ℕ → ℕ
   target = targetOf (start .args .next .now)
 
   abbrev branch-metric : ℕ → ℕ → ℤ
-  branch-metric = branchMetricOf (start .args .words .now) (start .args .g .now) (toZ w32 (ofZ w32 (start .args .a)))
+  branch-metric = branchMetricOf (start .args .words .now) g (toZ w32 (ofZ w32 (start .args .a)))
 
   abbrev part : ℕ → ℤ
-  part i = getD (start .args .g .now) (getD (start .args .words .now) i 0) (pos 0)
+  part i = getD g (getD (start .args .words .now) i 0) (pos 0)
 
   -- the code reads at 2·s what stands at 2·s + 0
-  read0 : Read (start .args .states) (2 * s) (start .args .next .now) (start .args .words .now) (start .args .g .now)
-  read0 = rw (add-zero (2 * s)) at (branch-read (start .pre .0) s 0 (c .loop-test .taken) (omega arith))
+  read0 : Read (start .args .states) (2 * s) (start .args .next .now) (start .args .words .now) g
+  read0 = rw (add-zero (2 * s)) at (branch-read branches s 0 (c .loop-test .taken) (omega arith))
 
-  read1 : Read (start .args .states) (2 * s + 1) (start .args .next .now) (start .args .words .now) (start .args .g .now)
-  read1 = branch-read (start .pre .0) s 1 (c .loop-test .taken) (omega arith)
+  read1 : Read (start .args .states) (2 * s + 1) (start .args .next .now) (start .args .words .now) g
+  read1 = branch-read branches s 1 (c .loop-test .taken) (omega arith)
 
   leads : (b : ℕ) → b < 2 → target s b < start .args .states
-  leads b bit = branch-read (start .pre .0) s b (c .loop-test .taken) bit .leads
+  leads b bit = branch-read branches s b (c .loop-test .taken) bit .leads
 
   bounded : (b : ℕ) → b < 2 → Within 12283 (branch-metric s b)
-  bounded b bit = let a-fits = start .fits .a in simp plain (branch-small (start .pre .0) s b (c .loop-test .taken) bit)
+  bounded b bit = let a-fits = start .fits .a in simp plain (branch-small branches s b (c .loop-test .taken) bit)
 
 -- what is read in the turn
 module _ (c : tie.After-m1 Inv-loop μ-loop) where
@@ -83,12 +93,12 @@ module _ (c : tie.After-m1 Inv-loop μ-loop) where
   before-is = toZ-ofZ (fits-of (c .before .before .before .before .before .before .before .before .before .before .f .given))
 
   zero-after :
-      toZ w32 (ofZ w32 (getD (start turn .args .t6) (getD (start turn .args .next .now) (2 * s turn) 0) (pos 0)))
-      ≡ getD (start turn .args .t6) (target turn (s turn) 0) (pos 0)
+      toZ w32 (ofZ w32 (getD (start turn .args .t7) (getD (start turn .args .next .now) (2 * s turn) 0) (pos 0)))
+      ≡ getD (start turn .args .t7) (target turn (s turn) 0) (pos 0)
   zero-after = rw add-zero (toZ-ofZ (fits-of (c .before .before .before .before .before .m0 .given)))
 
   one-after :
-      toZ w32 (ofZ w32 (getD (start turn .args .t6) (target turn (s turn) 1) (pos 0))) ≡ getD (start turn .args .t6) (target turn (s turn) 1) (pos 0)
+      toZ w32 (ofZ w32 (getD (start turn .args .t7) (target turn (s turn) 1) (pos 0))) ≡ getD (start turn .args .t7) (target turn (s turn) 1) (pos 0)
   one-after = toZ-ofZ (fits-of (c .m1 .given))
 
   -- the metrics of the two branches
@@ -108,7 +118,7 @@ module _ (c : tie.After-m1 Inv-loop μ-loop) where
 zero-departs :
     (c : tie.After-plus Inv-loop μ-loop)
     → let t = turn (c .before) in
-    held (toZ w32 (ofZ w32 (c .plus .result))) ≡ departing (target t) (branch-metric t) (row (start t .args .t6)) (s t) 0
+    held (toZ w32 (ofZ w32 (c .plus .result))) ≡ departing (target t) (branch-metric t) (row (start t .args .t7)) (s t) 0
 unfolding departing
 zero-departs c =
     let read = c .before in
@@ -117,7 +127,7 @@ zero-departs c =
 one-departs :
     (c : tie.After-plus2 Inv-loop μ-loop)
     → let t = turn (c .before .before) in
-    held (toZ w32 (ofZ w32 (c .plus2 .result))) ≡ departing (target t) (branch-metric t) (row (start t .args .t6)) (s t) 1
+    held (toZ w32 (ofZ w32 (c .plus2 .result))) ≡ departing (target t) (branch-metric t) (row (start t .args .t7)) (s t) 1
 unfolding departing
 one-departs c =
     let read = c .before .before in
@@ -128,7 +138,7 @@ zero-passes :
     (c : tie.After-through Inv-loop μ-loop)
     → let t = turn (c .before .before .before .before) in
     held (toZ w32 (ofZ w32 (c .through .result)))
-    ≡ passing (target t) (branch-metric t) (rowAt (start t .args .work .now) (start t .args .at)) (row (start t .args .t6)) 0 (s t)
+    ≡ passing (target t) (branch-metric t) (rowAt (start t .args .work .now) (start t .args .at)) (row (start t .args .t7)) 0 (s t)
 unfolding passing departing
 zero-passes c =
     let read = c .before .before .before .before in
@@ -138,11 +148,14 @@ one-passes :
     (c : tie.After-through2 Inv-loop μ-loop)
     → let t = turn (c .before .before .before .before .before .before) in
     held (toZ w32 (ofZ w32 (c .through2 .result)))
-    ≡ passing (target t) (branch-metric t) (rowAt (start t .args .work .now) (start t .args .at)) (row (start t .args .t6)) 1 (s t)
+    ≡ passing (target t) (branch-metric t) (rowAt (start t .args .work .now) (start t .args .at)) (row (start t .args .t7)) 1 (s t)
 unfolding passing departing
 one-passes c =
     let read = c .before .before .before .before .before .before in
     kept (c .through2 .result) (c .through2 .ok) (rw (before-is read, one-metric read, one-after read) at (c .through2 .ensures))
+
+word-metrics-requires : tie.Need-word-metrics-requires Inv-loop μ-loop
+word-metrics-requires c κs = let ready = c .before .before .before .pre .0 in (ready .outputs, (ready .values, ready .enough))
 
 loop-holds : tie.Need-loop-holds Inv-loop μ-loop
 loop-holds c = (omega arith, refl, (λ j h. absurd (omega arith)), sym (over-zero _), sym (over-zero _))
@@ -174,8 +187,8 @@ cast-w0 c = omega (arith, read0 (c .before .before .before))
 mul-branch-metric : tie.Need-mul-branch-metric Inv-loop μ-loop
 mul-branch-metric c = omega (arith, read0 (c .before .before .before))
 
-shared-slice-copy-out-branch-metric : tie.Need-shared-slice-copy-out-branch-metric Inv-loop μ-loop
-shared-slice-copy-out-branch-metric c = omega (arith, read0 (c .before .before .before))
+slice-copy-out-branch-metric : tie.Need-slice-copy-out-branch-metric Inv-loop μ-loop
+slice-copy-out-branch-metric c = omega (arith, read0 (c .before .before .before))
 
 branch-metric-requires : tie.Need-branch-metric-requires Inv-loop μ-loop
 branch-metric-requires c κs =
@@ -211,8 +224,8 @@ cast-w1 c = omega (arith, read1 (c .before .before .before .before .before .befo
 mul-branch-metric-2 : tie.Need-mul-branch-metric-2 Inv-loop μ-loop
 mul-branch-metric-2 c = omega (arith, read1 (c .before .before .before .before .before .before .before .before))
 
-shared-slice-copy-out-branch-metric-2 : tie.Need-shared-slice-copy-out-branch-metric-2 Inv-loop μ-loop
-shared-slice-copy-out-branch-metric-2 c = omega (arith, read1 (c .before .before .before .before .before .before .before .before))
+slice-copy-out-branch-metric-2 : tie.Need-slice-copy-out-branch-metric-2 Inv-loop μ-loop
+slice-copy-out-branch-metric-2 c = omega (arith, read1 (c .before .before .before .before .before .before .before .before))
 
 branch-metric-requires-2 : tie.Need-branch-metric-requires-2 Inv-loop μ-loop
 branch-metric-requires-2 c κs =
@@ -292,13 +305,20 @@ loop-again c =
           (c .larger3 .ensures ∙ ap₂ larger (at .loop .inv .4) (one-passes (c .before)) ∙ sym (over-more (at .loop .s) _)),
     )
 
+same-length : tie.Need-same-length Inv-loop μ-loop
+same-length c = c .before .before .before .word-metrics .kept .1 .0
+
 returns : tie.Need-returns Inv-loop μ-loop
 returns c =
-    let start = c .before .before .before .before in
+    let called = c .before .before .before .word-metrics in
+    let start = c .before .before .before .before .before .before .before in
     let a-fits = start .fits .a in
     let end : c .before .loop .s ≡ start .args .states = omega arith in (
-      (λ j h. simp plain at (c .before .loop .inv .2 j (omega arith))),
-      (rw end at (simp plain at (c .before .loop .inv .3)), rw end at (simp plain at (c .before .loop .inv .4))),
+      called .ensures,
+      (
+        (λ j h. simp plain at (c .before .loop .inv .2 j (omega arith))),
+        (rw end at (simp plain at (c .before .loop .inv .3)), rw end at (simp plain at (c .before .loop .inv .4))),
+      ),
     )
 
 pub backwards-spec : {M : Type 1} → statement M
@@ -307,6 +327,7 @@ backwards-spec =
     (tie.spec
     Inv-loop
     μ-loop
+    word-metrics-requires
     loop-holds
     mul-i
     add-f
@@ -317,7 +338,7 @@ backwards-spec =
     shared-slice-read-w0
     cast-w0
     mul-branch-metric
-    shared-slice-copy-out-branch-metric
+    slice-copy-out-branch-metric
     branch-metric-requires
     mul-m0
     array-copy-out-m0
@@ -328,7 +349,7 @@ backwards-spec =
     shared-slice-read-w1
     cast-w1
     mul-branch-metric-2
-    shared-slice-copy-out-branch-metric-2
+    slice-copy-out-branch-metric-2
     branch-metric-requires-2
     mul-m1
     array-copy-out-m1
@@ -344,4 +365,5 @@ backwards-spec =
     add-s
     loop-less
     loop-again
+    same-length
     returns)

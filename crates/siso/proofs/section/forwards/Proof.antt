@@ -1,5 +1,5 @@
--- `section::forwards` returns the row after a section, and stores that before it. The invariant: the metrics so far are what the branches of the first s
--- states bring, and the words of these states are stored.
+-- `section::forwards` writes the metrics of a section's words, returns the row after the section, and stores that before it. The invariant: the metrics so
+-- far are what the branches of the first s states bring, and the words of these states are stored.
 -- Assumes nothing.
 use borrow.Author.Needs.{needs}
 use native.Mathlib.Omega.{arith}
@@ -19,8 +19,8 @@ use Rattle.integers.specs.laws.Linear.{plain, fits-of}
 use Rattle.trellis.specs.Outcome.{larger}
 use Rattle.trellis.specs.laws.MaxPlus.{plus}
 use Rattle.trellis.specs.laws.Sweeps.{advance}
-use Rattle.siso.specs.laws.Held.{held, row, targetOf, branchMetricOf, Saved}
-use Rattle.siso.proofs.Branch.{state-small, Read, branch-read, branch-small}
+use Rattle.siso.specs.laws.Held.{held, row, targetOf, branchMetricOf, Branches, Saved}
+use Rattle.siso.proofs.Branch.{state-small, Read, ready-branches, branch-read, branch-small}
 use Rattle.siso.proofs.Held.{unreached}
 use Rattle.siso.proofs.Rows.{kept}
 use Rattle.siso.proofs.Steps.{advance-none, advanced}
@@ -29,7 +29,7 @@ use Rattle.siso.proofs.section.forwards.Statement.{statement}
 use Rattle.siso.proofs.section.forwards.Tie as tie
 
 abbrev Inv-loop : tie.InvT-loop
-Inv-loop next words states g a work₀ at m out₀ s₀ work out s =
+Inv-loop next words states channel g a work₀ at m out₀ s₀ work out s =
     (s ≤ states)
     × (length work ≡ length work₀)
     × (length out ≡ 16)
@@ -37,28 +37,37 @@ Inv-loop next words states g a work₀ at m out₀ s₀ work out s =
     × ((r : ℕ) → r < 16 → row out r ≡ advance (targetOf next) (branchMetricOf words g (toZ w32 a)) s (row m) r)
 
 abbrev μ-loop : tie.MeasureT-loop
-μ-loop next words states g a work₀ at m out₀ s₀ work out s = states - s
+μ-loop next words states channel g a work₀ at m out₀ s₀ work out s = states - s
 
 -- a turn of the loop
 module _ (c : tie.In-loop Inv-loop μ-loop) where
   abbrev start : tie.Start Inv-loop μ-loop
-  start = c .before .before .before .before
+  start = c .before .before .before .before .before .before .before
 
   abbrev s : ℕ
   s = c .before .loop .s
+
+  -- the metrics of the section's words
+  abbrev g : List ℤ
+  g = c .before .before .before .word-metrics .last .1 .0
+
+  branches : Branches (start .args .states) (start .args .next .now) (start .args .words .now) g (start .args .a)
+  branches =
+      let called = c .before .before .before .word-metrics in
+      ready-branches (start .pre .0) (called .kept .1 .0) (called .ensures)
 
   abbrev target : ℕ → ℕ → ℕ
   target = targetOf (start .args .next .now)
 
   abbrev branch-metric : ℕ → ℕ → ℤ
-  branch-metric = branchMetricOf (start .args .words .now) (start .args .g .now) (toZ w32 (ofZ w32 (start .args .a)))
+  branch-metric = branchMetricOf (start .args .words .now) g (toZ w32 (ofZ w32 (start .args .a)))
 
   -- what the branch of bit b brings
   abbrev brought : ℕ → Option ℤ
-  brought b = plus (row (start .args .t6) s) (some (branch-metric s b))
+  brought b = plus (row (start .args .t7) s) (some (branch-metric s b))
 
   abbrev part : ℕ → ℤ
-  part i = getD (start .args .g .now) (getD (start .args .words .now) i 0) (pos 0)
+  part i = getD g (getD (start .args .words .now) i 0) (pos 0)
 
   -- the code reads at 2·s what stands at 2·s + 0
   abbrev to0 : ℕ
@@ -67,16 +76,16 @@ module _ (c : tie.In-loop Inv-loop μ-loop) where
   abbrev to1 : ℕ
   to1 = getD (start .args .next .now) (2 * s + 1) 0
 
-  read0 : Read (start .args .states) (2 * s) (start .args .next .now) (start .args .words .now) (start .args .g .now)
-  read0 = rw (add-zero (2 * s)) at (branch-read (start .pre .0) s 0 (c .loop-test .taken) (omega arith))
+  read0 : Read (start .args .states) (2 * s) (start .args .next .now) (start .args .words .now) g
+  read0 = rw (add-zero (2 * s)) at (branch-read branches s 0 (c .loop-test .taken) (omega arith))
 
-  read1 : Read (start .args .states) (2 * s + 1) (start .args .next .now) (start .args .words .now) (start .args .g .now)
-  read1 = branch-read (start .pre .0) s 1 (c .loop-test .taken) (omega arith)
+  read1 : Read (start .args .states) (2 * s + 1) (start .args .next .now) (start .args .words .now) g
+  read1 = branch-read branches s 1 (c .loop-test .taken) (omega arith)
 
   bounded : (b : ℕ) → b < 2 → Within 100000000 (branch-metric s b)
   bounded b bit =
       let a-fits = start .fits .a in
-      simp plain (within-more (omega arith) (branch-small (start .pre .0) s b (c .loop-test .taken) bit))
+      simp plain (within-more (omega arith) (branch-small branches s b (c .loop-test .taken) bit))
 
 -- where the state's word was read, from where the metric of either branch is known
 abbrev zero-of : tie.After-branch-metric Inv-loop μ-loop → tie.After-x Inv-loop μ-loop
@@ -88,7 +97,7 @@ one-of c = c .before .before .before .before .before .before .before .before .be
 -- the word, and the metrics of the two branches
 word-is :
     (c : tie.After-x Inv-loop μ-loop)
-    → let t = c .before in toZ w32 (ofZ w32 (getD (start t .args .t6) (s t) (pos 0))) ≡ getD (start t .args .t6) (s t) (pos 0)
+    → let t = c .before in toZ w32 (ofZ w32 (getD (start t .args .t7) (s t) (pos 0))) ≡ getD (start t .args .t7) (s t) (pos 0)
 word-is c = toZ-ofZ (fits-of (c .x .given))
 
 zero-metric :
@@ -137,6 +146,9 @@ one-arrives c =
     let t = one-of (c .before .before .before .before .before) .before in
     let had = kept (getD (left (c .before .before)) (to1 t) (pos 0)) (c .before .had1 .given) refl in
     kept (c .larger2 .result) (c .larger2 .ok) (c .larger2 .ensures ∙ ap₂ larger had (one-brings (c .before .before .before .before)))
+
+word-metrics-requires : tie.Need-word-metrics-requires Inv-loop μ-loop
+word-metrics-requires c κs = let ready = c .before .before .before .pre .0 in (ready .outputs, (ready .values, ready .enough))
 
 loop-holds : tie.Need-loop-holds Inv-loop μ-loop
 loop-holds c = (omega arith, refl, refl, saved-none, λ r h. unreached 16 r h ∙ sym (advance-none _ _ _ r))
@@ -192,8 +204,8 @@ cast-w1 c = omega (arith, read1 (c .before .before .before .before .before))
 mul-branch-metric : tie.Need-mul-branch-metric Inv-loop μ-loop
 mul-branch-metric c = omega (arith, read0 (c .before .before .before .before .before))
 
-shared-slice-copy-out-branch-metric : tie.Need-shared-slice-copy-out-branch-metric Inv-loop μ-loop
-shared-slice-copy-out-branch-metric c = omega (arith, read0 (c .before .before .before .before .before))
+slice-copy-out-branch-metric : tie.Need-slice-copy-out-branch-metric Inv-loop μ-loop
+slice-copy-out-branch-metric c = omega (arith, read0 (c .before .before .before .before .before))
 
 branch-metric-requires : tie.Need-branch-metric-requires Inv-loop μ-loop
 branch-metric-requires c κs =
@@ -210,8 +222,8 @@ plus-requires c κs =
 mul-branch-metric-2 : tie.Need-mul-branch-metric-2 Inv-loop μ-loop
 mul-branch-metric-2 c = omega (arith, read1 (c .before .before .before .before .before .before .before .before))
 
-shared-slice-copy-out-branch-metric-2 : tie.Need-shared-slice-copy-out-branch-metric-2 Inv-loop μ-loop
-shared-slice-copy-out-branch-metric-2 c = omega (arith, read1 (c .before .before .before .before .before .before .before .before))
+slice-copy-out-branch-metric-2 : tie.Need-slice-copy-out-branch-metric-2 Inv-loop μ-loop
+slice-copy-out-branch-metric-2 c = omega (arith, read1 (c .before .before .before .before .before .before .before .before))
 
 branch-metric-requires-2 : tie.Need-branch-metric-requires-2 Inv-loop μ-loop
 branch-metric-requires-2 c κs =
@@ -270,20 +282,24 @@ loop-again c =
       simp length-set (at .loop .inv .1),
       simp length-set (at .loop .inv .2),
       rw (word-is read) (saved-more (omega arith) (at .loop .inv .3)),
-      λ r h. advanced (target t) (branch-metric t) (row (start t .args .t6)) (at .loop .out) (s t) r (to0 t) (to1 t) _ _ (at .loop .inv .4 r h)
+      λ r h. advanced (target t) (branch-metric t) (row (start t .args .t7)) (at .loop .out) (s t) r (to0 t) (to1 t) _ _ (at .loop .inv .4 r h)
           (rw add-zero) (omega (arith, read0 t)) (zero-arrives (c .before .before))
           refl (simp length-set (omega (arith, read1 t))) (one-arrives c),
     )
 
 same-length : tie.Need-same-length Inv-loop μ-loop
-same-length c = search needs
+same-length c = c .before .before .before .word-metrics .kept .1 .0
+
+same-length-2 : tie.Need-same-length-2 Inv-loop μ-loop
+same-length-2 c = search needs
 
 returns : tie.Need-returns Inv-loop μ-loop
 returns c =
-    let start = c .before .before .before .before in
+    let called = c .before .before .before .word-metrics in
+    let start = c .before .before .before .before .before .before .before in
     let a-fits = start .fits .a in
     let end : c .before .loop .s ≡ start .args .states = omega arith in
-    ((λ r h. simp plain at (rw end at (c .before .loop .inv .4 r h))), rw end at (c .before .loop .inv .3))
+    (called .ensures, ((λ r h. simp plain at (rw end at (c .before .loop .inv .4 r h))), rw end at (c .before .loop .inv .3)))
 
 pub forwards-spec : {M : Type 1} → statement M
 forwards-spec =
@@ -291,6 +307,7 @@ forwards-spec =
     (tie.spec
     Inv-loop
     μ-loop
+    word-metrics-requires
     loop-holds
     mul-i
     mul-x
@@ -309,11 +326,11 @@ forwards-spec =
     shared-slice-read-w1
     cast-w1
     mul-branch-metric
-    shared-slice-copy-out-branch-metric
+    slice-copy-out-branch-metric
     branch-metric-requires
     plus-requires
     mul-branch-metric-2
-    shared-slice-copy-out-branch-metric-2
+    slice-copy-out-branch-metric-2
     branch-metric-requires-2
     plus-requires-2
     mul-had0
@@ -330,4 +347,5 @@ forwards-spec =
     loop-less
     loop-again
     same-length
+    same-length-2
     returns)

@@ -11,17 +11,17 @@ use lib.ListN.{length, getD}
 use mir.Facts.{toZ-ofZ}
 use mir.Syntax.{w16, w32}
 use mir.Val.{SFits, toZ, ofZ}
-use Rattle.integers.specs.laws.Linear.{plain, fits-of, widen}
+use Rattle.integers.specs.laws.Linear.{fits-of, widen, read-back}
 use Rattle.trellis.specs.Table.{Table, tableOf}
 use Rattle.trellis.specs.Path.{Values, aprioriAt}
-use Rattle.trellis.specs.laws.Sweeps.{boundary, backward, backward-end}
-use Rattle.siso.specs.laws.Between.{Between, back-asked, back-is}
-use Rattle.siso.specs.laws.Gathered.{gathered, part-length, part-within}
+use Rattle.trellis.specs.laws.Sweeps.{boundary, forward, backward, backward-end}
+use Rattle.siso.specs.laws.Between.{Between, back-is}
+use Rattle.siso.specs.laws.Gathered.{section-ready, gathered}
 use Rattle.siso.specs.laws.Held.{held, row, rowAt, bestOf}
 use Rattle.siso.specs.Lent.{valuesOf}
 use Rattle.siso.specs.laws.Pass.{Pass}
 use Rattle.siso.specs.laws.Passed.{table-limits, few-sections}
-use Rattle.siso.specs.laws.Steps.{Agree}
+use Rattle.siso.specs.laws.Steps.{Agree, forward-held, backward-held}
 use Rattle.siso.proofs.Places.{channel-place, work-place}
 use Rattle.siso.proofs.Settled.{settling, settled-is}
 use Rattle.siso.proofs.Written.{Written, written-none, written-more, written-all}
@@ -90,57 +90,32 @@ mul-from c = omega (arith, channel-place (pass (c .before)) (here c))
 add-to : tie.Need-add-to Inv-loop μ-loop
 add-to c = omega (arith, channel-place (pass (c .before)) (here c))
 
-mul-word-metrics : tie.Need-mul-word-metrics Inv-loop μ-loop
-mul-word-metrics c = omega (arith, channel-place (pass (c .before)) (here c))
-
-sub-word-metrics : tie.Need-sub-word-metrics Inv-loop μ-loop
-sub-word-metrics c = omega arith
-
-part-word-metrics-start : tie.Need-part-word-metrics-start Inv-loop μ-loop
-part-word-metrics-start c = omega arith
-
-part-word-metrics-end : tie.Need-part-word-metrics-end Inv-loop μ-loop
-part-word-metrics-end c = omega (arith, channel-place (pass (c .before)) (here c))
-
-word-metrics-requires : tie.Need-word-metrics-requires Inv-loop μ-loop
-word-metrics-requires c κs =
-    let turn = c .before .before in
-    let p = pass (turn .before) in
-    rw add-sub-cancel-left (omega (arith, part-length p _ (here turn), table-limits p), part-within p _ (here turn))
-
--- the values of the turn's section, and the metrics on both sides of it
-between :
-    (c : tie.After-word-metrics Inv-loop μ-loop)
-    → let at = c .before .before .before .before in
-    let args = start at .args in
-    Between (table at) (values at) (args .sections) (section at) (c .word-metrics .last .1 .0)
-    (rowAt (args .work .now) (args .states * section at)) (row (at .loop .m))
-between c =
-    let turn = c .before .before .before in
-    let at = turn .before in
-    let same-length = c .word-metrics .kept .1 .0 in
-    let next : suc (section at) ≡ at .loop .left = omega arith in
-    record {
-      values =
-          gathered (pass at) (here turn) _ (same-length ∙ at .loop .inv .1) (rw (add-sub-cancel-left, ← same-length) at (c .word-metrics .ensures)) refl;
-      before = λ s l. start at .pre .1 .1 .1 .1 .0 .rows (section at) s (here turn) l;
-      after = rw next (at .loop .inv .2);
-    }
-
 mul-a : tie.Need-mul-a Inv-loop μ-loop
-mul-a c = let turn = c .before .before .before .before in omega (arith, here turn, few-sections (pass (turn .before)))
+mul-a c = omega (arith, here c, few-sections (pass (c .before)))
 
 shared-slice-copy-out-a : tie.Need-shared-slice-copy-out-a Inv-loop μ-loop
-shared-slice-copy-out-a c = let turn = c .before .before .before .before in omega (arith, here turn, pass (turn .before) .apriori-long)
+shared-slice-copy-out-a c = omega (arith, here c, pass (c .before) .apriori-long)
 
 -- the a-priori value that is read
 apriori-fits :
     (c : tie.After-a Inv-loop μ-loop)
-    → let at = c .before .before .before .before .before .before in SFits w16 (getD (start at .args .apriori .now) (section at) (pos 0))
+    → let at = c .before .before in SFits w16 (getD (start at .args .apriori .now) (section at) (pos 0))
 apriori-fits c = fits-of (c .a .given)
 
+mul-backwards : tie.Need-mul-backwards Inv-loop μ-loop
+mul-backwards c = let turn = c .before in omega (arith, channel-place (pass (turn .before)) (here turn))
+
+sub-backwards : tie.Need-sub-backwards Inv-loop μ-loop
+sub-backwards c = omega arith
+
+part-backwards-start : tie.Need-part-backwards-start Inv-loop μ-loop
+part-backwards-start c = omega arith
+
+part-backwards-end : tie.Need-part-backwards-end Inv-loop μ-loop
+part-backwards-end c = let turn = c .before in omega (arith, channel-place (pass (turn .before)) (here turn))
+
 cast-backwards : tie.Need-cast-backwards Inv-loop μ-loop
-cast-backwards c = let fits = apriori-fits (c .before) in simp plain (widen fits)
+cast-backwards c = let fits = apriori-fits (c .before .before) in rw (toZ-ofZ fits) (widen fits)
 
 -- the row of the section stands within the working list
 row-fits :
@@ -149,76 +124,120 @@ row-fits :
     (args .states * section (c .before) + args .states ≤ length (args .work .now)) × (length (args .work .now) ≤ 65552)
 row-fits c = let at = c .before in rw (start at .pre .1 .1 .1 .0) (work-place (pass at) {k = section at} (omega arith))
 
-mul-backwards : tie.Need-mul-backwards Inv-loop μ-loop
-mul-backwards c = omega (arith, row-fits (c .before .before .before .before .before .before))
+mul-backwards-2 : tie.Need-mul-backwards-2 Inv-loop μ-loop
+mul-backwards-2 c = omega (arith, row-fits (c .before .before .before))
+
+-- the metrics before the turn's section, and those after it
+row-before :
+    (c : tie.In-loop Inv-loop μ-loop)
+    → let at = c .before in
+    let args = start at .args in
+    Agree (args .states) (rowAt (args .work .now) (args .states * section at)) (forward (table at) (values at) boundary (section at))
+row-before c s l = start (c .before) .pre .1 .1 .1 .1 .0 .rows (section (c .before)) s (here c) l
+
+row-after :
+    (c : tie.In-loop Inv-loop μ-loop)
+    → let at = c .before in
+    let args = start at .args in
+    Agree (args .states) (row (at .loop .m)) (backward (table at) (values at) boundary (suc (section at)) (args .sections - suc (section at)))
+row-after c = let next : suc (section (c .before)) ≡ c .before .loop .left = omega arith in rw next (c .before .loop .inv .2)
 
 backwards-requires : tie.Need-backwards-requires Inv-loop μ-loop
 unfolding aprioriAt
 backwards-requires c κs =
-    let fits = apriori-fits (c .before) in
-    let worded = c .before .before .before in
-    let turn = worded .before .before .before in
-    let (branches, (after, before)) = back-asked (pass (turn .before)) (here turn) (between worded) in
-    simp plain (branches, (after, (row-fits turn .0, before)))
+    let fits = apriori-fits (c .before .before) in
+    let turn = c .before .before .before in
+    let at = turn .before in
+    rw (add-sub-cancel-left, read-back fits) (
+      section-ready (pass at) (here turn) (at .loop .inv .1),
+      (
+        backward-held (pass at) (suc (section at)) (row-after turn),
+        (row-fits turn .0, forward-held (pass at) (section at) (omega (arith, here turn)) (row-before turn)),
+      ),
+    )
+
+-- the list of the words' metrics has its length still
+words-length :
+    (c : tie.After-backwards Inv-loop μ-loop)
+    → let at = c .before .before .before .before .before in length (c .backwards .last .1 .1 .1 .1 .0) ≡ 2 ^ start at .args .outputs
+words-length c = c .backwards .kept .1 .1 .1 .1 .0 ∙ c .before .before .before .before .before .loop .inv .1
+
+-- the values of the turn's section, and the metrics on both sides of it
+between :
+    (c : tie.After-backwards Inv-loop μ-loop)
+    → let at = c .before .before .before .before .before in
+    let args = start at .args in
+    Between (table at) (values at) (args .sections) (section at) (c .backwards .last .1 .1 .1 .1 .0)
+    (rowAt (args .work .now) (args .states * section at)) (row (at .loop .m))
+between c =
+    let turn = c .before .before .before .before in
+    record {
+      values =
+          gathered (pass (turn .before)) (here turn) _ (words-length c) (rw add-sub-cancel-left at (c .backwards .ensures .0)) refl;
+      before = row-before turn;
+      after = row-after turn;
+    }
 
 mul-settle : tie.Need-mul-settle Inv-loop μ-loop
 mul-settle c =
-    let turn = c .before .before .before .before .before .before .before in
+    let turn = c .before .before .before .before .before in
     omega (arith, channel-place (pass (turn .before)) (here turn))
 
 shared-slice-copy-out-settle : tie.Need-shared-slice-copy-out-settle Inv-loop μ-loop
 shared-slice-copy-out-settle c =
-    let turn = c .before .before .before .before .before .before .before in
+    let turn = c .before .before .before .before .before in
     omega (arith, channel-place (pass (turn .before)) (here turn))
 
 -- the channel value that is read
 channel-fits :
     (c : tie.After-settle-arg Inv-loop μ-loop)
-    → let at = c .before .before .before .before .before .before .before .before .before in
+    → let at = c .before .before .before .before .before .before .before in
     SFits w16 (getD (start at .args .channel .now) (start at .args .outputs * section at) (pos 0))
 channel-fits c = fits-of (c .settle-arg .given)
 
--- the best metrics with bit 0 and with bit 1 are words
-best-fits : (c : tie.After-struct-told2 Inv-loop μ-loop) → let b = c .before .before .before .backwards .result in SFits w32 (b .zero) × SFits w32 (b .one)
+-- the step back, where the best metrics with bit 0 and with bit 1 are told
+abbrev stepped : tie.After-struct-told2 Inv-loop μ-loop → tie.After-backwards Inv-loop μ-loop
+stepped c = c .before .before .before .before
+
+-- both are words
+best-fits : (c : tie.After-struct-told2 Inv-loop μ-loop) → let b = stepped c .backwards .result in SFits w32 (b .zero) × SFits w32 (b .one)
 best-fits c = let told = c .struct-told2 .given in (search needs, search needs)
 
 -- and the section's
 bests :
     (c : tie.After-struct-told2 Inv-loop μ-loop)
-    → let b = c .before .before .before .backwards .result in
-    let worded = c .before .before .before .before .before .before .before in
-    let at = worded .before .before .before .before in
+    → let back = stepped c in
+    let b = back .backwards .result in
+    let at = back .before .before .before .before .before in
     let args = start at .args in
-    let best = bestOf (args .states) (args .next .now) (args .words .now) (worded .word-metrics .last .1 .0) (aprioriAt (values at) (section at))
+    let best = bestOf (args .states) (args .next .now) (args .words .now) (back .backwards .last .1 .1 .1 .1 .0) (aprioriAt (values at) (section at))
     (rowAt (args .work .now) (args .states * section at)) (row (at .loop .m)) in
     (held (toZ w32 (ofZ w32 (b .zero))) ≡ best 0) × (held (toZ w32 (ofZ w32 (b .one))) ≡ best 1)
 unfolding aprioriAt
 bests c =
     let (zero-fits, one-fits) = best-fits c in
-    let back = c .before .before .before in
-    let fits = apriori-fits (back .before .before) in
-    simp plain (simp plain at (back .backwards .ensures .1))
+    let fits = apriori-fits (stepped c .before .before .before) in
+    rw (toZ-ofZ zero-fits, toZ-ofZ one-fits) (rw (read-back fits) at (stepped c .backwards .ensures .1 .1))
 
 settle-requires : tie.Need-settle-requires Inv-loop μ-loop
 unfolding aprioriAt
 settle-requires c κs =
-    let a-read = c .before .before .before .before .before in
-    let worded = a-read .before .before in
-    let turn = worded .before .before .before in
+    let a-read = stepped c .before .before .before in
+    let turn = a-read .before in
     let at = turn .before in
     let y-is = toZ-ofZ (channel-fits (c .before .before)) in
-    settling (pass at) (here turn) (between worded) (bests c .0) (bests c .1) y-is (toZ-ofZ (apriori-fits a-read)) (start at .pre .1 .0)
+    settling (pass at) (here turn) (between (stepped c)) (bests c .0) (bests c .1) y-is (toZ-ofZ (apriori-fits a-read)) (start at .pre .1 .0)
 
 put-requires : tie.Need-put-requires Inv-loop μ-loop
 put-requires c κs =
-    let turn = c .before .before .before .before .before .before .before .before .before .before .before .before .before .before .before in
+    let turn = stepped (c .before .before .before .before .before) .before .before .before .before in
     let inside = here turn in
     let written = turn .before .loop .inv .3 in
     omega arith
 
 loop-less : tie.Need-loop-less Inv-loop μ-loop
 loop-less c =
-    let turn = c .before .before .before .before .before .before .before .before .before .before .before .before .before .before .before .before .before .before .before .before in
+    let turn = stepped (c .before .before .before .before .before .before .before .before .before .before) .before .before .before .before in
     omega (arith, turn .loop-test .taken)
 
 loop-again : tie.Need-loop-again Inv-loop μ-loop
@@ -228,19 +247,18 @@ loop-again c =
     let settle = put .before .before .before .before .before in
     let told = settle .before in
     let y-is = toZ-ofZ (channel-fits (told .before .before)) in
-    let back = told .before .before .before in
-    let a-read = back .before .before in
+    let back = stepped told in
+    let a-read = back .before .before .before in
     let fits = apriori-fits a-read in
-    let worded = a-read .before .before in
-    let turn = worded .before .before .before in
+    let turn = a-read .before in
     let at = turn .before in
     let settled =
     settle .settle .ensures
-    ∙ settled-is (pass at) (here turn) (between worded) (bests told .0) (bests told .1) y-is (toZ-ofZ fits) (at .before .before .is-systematic .ensures) in
+    ∙ settled-is (pass at) (here turn) (between back) (bests told .0) (bests told .1) y-is (toZ-ofZ fits) (at .before .before .is-systematic .ensures) in
     let (marks-set, (margins-set, extrinsics-set)) = put .put .ensures in (
       omega arith,
-      between worded .values .many,
-      λ s l. (simp plain at (back .backwards .ensures .0 s l)) ∙ back-is (pass at) (here turn) (between worded) s l,
+      words-length back,
+      λ s l. (rw (read-back fits) at (back .backwards .ensures .1 .0 s l)) ∙ back-is (pass at) (here turn) (between back) s l,
       written-more (turn .loop-test .taken) (at .loop .inv .0) (at .loop .inv .3) settled marks-set margins-set extrinsics-set,
     )
 
@@ -273,15 +291,14 @@ backward-spec =
     sub-k
     mul-from
     add-to
-    mul-word-metrics
-    sub-word-metrics
-    part-word-metrics-start
-    part-word-metrics-end
-    word-metrics-requires
     mul-a
     shared-slice-copy-out-a
-    cast-backwards
     mul-backwards
+    sub-backwards
+    part-backwards-start
+    part-backwards-end
+    cast-backwards
+    mul-backwards-2
     backwards-requires
     mul-settle
     shared-slice-copy-out-settle

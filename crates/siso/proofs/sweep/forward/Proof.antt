@@ -20,7 +20,7 @@ use Rattle.siso.specs.laws.Held.{row}
 use Rattle.siso.specs.Lent.{valuesOf}
 use Rattle.siso.specs.laws.Pass.{Pass, Forward}
 use Rattle.siso.specs.laws.Passed.{table-limits, few-sections}
-use Rattle.siso.specs.laws.Gathered.{Gathered, part-length, part-within, gathered, gathered-branches}
+use Rattle.siso.specs.laws.Gathered.{Gathered, section-ready, gathered}
 use Rattle.siso.specs.laws.Steps.{Agree, next-forward, forward-held}
 use Rattle.siso.proofs.ForwardRows.{rows-none, rows-more}
 use Rattle.siso.proofs.Places.{channel-place, work-place}
@@ -93,99 +93,89 @@ mul-from c = omega (arith, sized c)
 add-to : tie.Need-add-to Inv-loop μ-loop
 add-to c = omega (arith, sized c)
 
-mul-word-metrics : tie.Need-mul-word-metrics Inv-loop μ-loop
-mul-word-metrics c = omega (arith, sized c)
-
-sub-word-metrics : tie.Need-sub-word-metrics Inv-loop μ-loop
-sub-word-metrics c = omega arith
-
-part-word-metrics-start : tie.Need-part-word-metrics-start Inv-loop μ-loop
-part-word-metrics-start c = omega arith
-
-part-word-metrics-end : tie.Need-part-word-metrics-end Inv-loop μ-loop
-part-word-metrics-end c = sized c .1
-
-word-metrics-requires : tie.Need-word-metrics-requires Inv-loop μ-loop
-word-metrics-requires c κs =
-    let turn = c .before .before in
-    let p = pass (turn .before) in
-    rw add-sub-cancel-left (omega (arith, part-length p _ (turn .loop-test .taken), table-limits p), part-within p _ (turn .loop-test .taken))
-
--- the values of the turn's section
-section-gathered :
-    (c : tie.After-word-metrics Inv-loop μ-loop)
-    → let at = c .before .before .before .before in
-    Gathered (table at) (values at) (at .loop .k) (c .word-metrics .last .1 .0) (getD (start at .args .apriori .now) (at .loop .k) (pos 0))
-unfolding aprioriAt
-section-gathered c =
-    let turn = c .before .before .before in
-    let at = turn .before in
-    let same-length = c .word-metrics .kept .1 .0 in
-    gathered
-    (pass at)
-    (turn .loop-test .taken)
-    _
-    (same-length ∙ at .loop .inv .1)
-    (rw (add-sub-cancel-left, ← same-length) at (c .word-metrics .ensures))
-    refl
-
 mul-forwards : tie.Need-mul-forwards Inv-loop μ-loop
-mul-forwards c =
-    let turn = c .before .before .before .before .before in
+mul-forwards c = omega (arith, sized c)
+
+sub-forwards : tie.Need-sub-forwards Inv-loop μ-loop
+sub-forwards c = omega arith
+
+part-forwards-start : tie.Need-part-forwards-start Inv-loop μ-loop
+part-forwards-start c = omega arith
+
+part-forwards-end : tie.Need-part-forwards-end Inv-loop μ-loop
+part-forwards-end c = sized c .1
+
+mul-forwards-2 : tie.Need-mul-forwards-2 Inv-loop μ-loop
+mul-forwards-2 c =
+    let turn = c .before .before in
     omega (arith, few-sections (pass (turn .before)), turn .loop-test .taken)
 
 shared-slice-copy-out-forwards : tie.Need-shared-slice-copy-out-forwards Inv-loop μ-loop
 shared-slice-copy-out-forwards c =
-    let turn = c .before .before .before .before .before in
+    let turn = c .before .before in
     omega (arith, turn .loop-test .taken, pass (turn .before) .apriori-long)
 
 cast-forwards : tie.Need-cast-forwards Inv-loop μ-loop
-cast-forwards c = rw (toZ-ofZ (fits-of (c .forwards-arg2 .given))) (widen (fits-of (c .forwards-arg2 .given)))
+cast-forwards c = rw (toZ-ofZ (fits-of (c .forwards-arg3 .given))) (widen (fits-of (c .forwards-arg3 .given)))
 
-mul-forwards-2 : tie.Need-mul-forwards-2 Inv-loop μ-loop
-mul-forwards-2 c = omega (arith, row-fits (c .before .before .before .before .before .before .before))
+mul-forwards-3 : tie.Need-mul-forwards-3 Inv-loop μ-loop
+mul-forwards-3 c = omega (arith, row-fits (c .before .before .before .before))
 
 forwards-requires : tie.Need-forwards-requires Inv-loop μ-loop
+unfolding aprioriAt
 forwards-requires c κs =
-    let worded = c .before .before .before .before in
-    let turn = worded .before .before .before in
+    let turn = c .before .before .before .before in
     let at = turn .before in
-    rw (read-back (fits-of (c .before .forwards-arg2 .given))) (
-      gathered-branches (pass at) (section-gathered worded),
+    rw (add-sub-cancel-left, read-back (fits-of (c .before .forwards-arg3 .given))) (
+      section-ready (pass at) (turn .loop-test .taken) (at .loop .inv .1),
       (forward-held (pass at) _ (at .loop .inv .0) (at .loop .inv .3), omega (arith, row-fits turn, at .loop .inv .2)),
     )
+
+-- the list of the words' metrics has its length still
+words-length :
+    (c : tie.After-forwards Inv-loop μ-loop)
+    → let at = c .before .before .before .before .before .before in length (c .forwards .last .1 .1 .1 .1 .0) ≡ 2 ^ start at .args .outputs
+words-length c = c .forwards .kept .1 .1 .1 .1 .0 ∙ c .before .before .before .before .before .before .loop .inv .1
+
+-- the values of the turn's section
+section-gathered :
+    (c : tie.After-forwards Inv-loop μ-loop)
+    → let at = c .before .before .before .before .before .before in
+    Gathered (table at) (values at) (at .loop .k) (c .forwards .last .1 .1 .1 .1 .0) (getD (start at .args .apriori .now) (at .loop .k) (pos 0))
+unfolding aprioriAt
+section-gathered c =
+    let turn = c .before .before .before .before .before in
+    gathered (pass (turn .before)) (turn .loop-test .taken) _ (words-length c) (rw add-sub-cancel-left at (c .forwards .ensures .0)) refl
 
 -- the row after the section is the next one
 row-moved :
     (c : tie.After-forwards Inv-loop μ-loop)
-    → let at = c .before .before .before .before .before .before .before .before .before in
+    → let at = c .before .before .before .before .before .before in
     Agree (start at .args .states) (row (c .forwards .result)) (forward (table at) (values at) boundary (suc (at .loop .k)))
 row-moved c s l =
-    let worded = c .before .before .before .before .before in
-    let at = worded .before .before .before .before in
+    let at = c .before .before .before .before .before .before in
     let few = table-limits (pass at) .most-states in
-    (rw (read-back (fits-of (c .before .before .forwards-arg2 .given))) at (c .forwards .ensures .0 s (omega arith)))
-    ∙ next-forward (pass at) (section-gathered worded) (at .loop .inv .3) s
+    (rw (read-back (fits-of (c .before .before .forwards-arg3 .given))) at (c .forwards .ensures .1 .0 s (omega arith)))
+    ∙ next-forward (pass at) (section-gathered c) (at .loop .inv .3) s
 
 add-k : tie.Need-add-k Inv-loop μ-loop
 add-k c =
-    let turn = c .before .before .before .before .before .before .before .before .before in
+    let turn = c .before .before .before .before .before .before .before in
     omega (arith, few-sections (pass (turn .before)), turn .loop-test .taken)
 
 loop-less : tie.Need-loop-less Inv-loop μ-loop
-loop-less c = omega (arith, c .before .before .before .before .before .before .before .before .before .loop-test .taken)
+loop-less c = omega (arith, c .before .before .before .before .before .before .before .loop-test .taken)
 
 loop-again : tie.Need-loop-again Inv-loop μ-loop
 loop-again c =
-    let moved = c .before in
-    let worded = moved .before .before .before .before .before in
-    let turn = worded .before .before .before in
+    let moved = c .before .before in
+    let turn = moved .before .before .before .before .before in
     let inv = turn .before .loop .inv in (
       omega (arith, turn .loop-test .taken),
-      section-gathered worded .many,
-      moved .forwards .kept .1 .1 .1 .1 .1 .1 .0 ∙ inv .2,
+      words-length moved,
+      moved .forwards .kept .1 .1 .1 .1 .1 .1 .1 .0 ∙ inv .2,
       rw add-one (row-moved moved),
-      rows-more (inv .3) (moved .forwards .ensures .1) (inv .4),
+      rows-more (inv .3) (moved .forwards .ensures .1 .1) (inv .4),
     )
 
 -- ---- after the loop
@@ -222,15 +212,14 @@ forward-spec =
     loop-holds
     mul-from
     add-to
-    mul-word-metrics
-    sub-word-metrics
-    part-word-metrics-start
-    part-word-metrics-end
-    word-metrics-requires
     mul-forwards
+    sub-forwards
+    part-forwards-start
+    part-forwards-end
+    mul-forwards-2
     shared-slice-copy-out-forwards
     cast-forwards
-    mul-forwards-2
+    mul-forwards-3
     forwards-requires
     add-k
     loop-less
