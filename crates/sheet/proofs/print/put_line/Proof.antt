@@ -2,8 +2,9 @@
 -- Assumes nothing.
 use native.Mathlib.Omega.{arith}
 use mir.Syntax.{w32}
-use mir.Facts.{toZ-ofZ, toZ-pos}
+use mir.Facts.{toZ-pos}
 use borrow.Author.Needs.{needs}
+use Rattle.integers.specs.laws.Linear.{plain}
 use Rattle.sheet.specs.laws.Printing.{wrote-then, lineText}
 use Rattle.sheet.proofs.print.put_line.Statement.{statement}
 use Rattle.sheet.proofs.print.put_line.Tie as tie
@@ -38,8 +39,12 @@ returns c =
     let one = two .before .before .before .before in
     let start = one .before .before .before in
     let a = start .args in
-    rw (toZ-pos w32 {n = a .k} (omega (arith, start .pre .1)), toZ-pos w32 {n = a .bit} (omega (arith, start .fits .bit .fits)), toZ-ofZ (start .fits .margin), toZ-ofZ (start .fits .extrinsic))
-    at (wrote-then (wrote-then (wrote-then (one .put-number .ensures) (two .put-number2 .ensures)) (three .put-number3 .ensures)) (four .put-number4 .ensures))
+    let margin-fits = start .fits .margin in
+    let extrinsic-fits = start .fits .extrinsic in
+    let w =
+    rw (toZ-pos w32 {n = a .k} (omega (arith, start .pre .1)), toZ-pos w32 {n = a .bit} (omega (arith, start .fits .bit .fits)))
+    at (wrote-then (wrote-then (wrote-then (one .put-number .ensures) (two .put-number2 .ensures)) (three .put-number3 .ensures)) (four .put-number4 .ensures)) in
+    simp plain at w
 
 pub put-line-spec : {M : Type 1} → statement M
 put-line-spec =
