@@ -38,26 +38,7 @@ pub fn settled(zero: i32, one: i32, intrinsic: i32) -> Position
     }
 }
 
-// The mark: 2 for free, else the forced bit.
-fn mark(o: Outcome) -> u8
-    ensures { λ r. ⌜ r ≡ markOf o ⌝ }
-{
-    match o {
-        Outcome::Free(_) => 2,
-        Outcome::Forced(bit) => bit,
-    }
-}
-
-fn margin(o: Outcome) -> i32
-    ensures { λ r. ⌜ r ≡ marginOf o ⌝ }
-{
-    match o {
-        Outcome::Free(m) => m,
-        Outcome::Forced(_) => 0,
-    }
-}
-
-// Writes a position to the result lists.
+// Writes a position to the result lists: 2 marks a free one, with its margin, and the bit a forced one, with margin 0.
 pub fn put(k: usize, p: Position, marks: &mut [u8], margins: &mut [i32], extrinsics: &mut [i32])
     requires { ⌜ k < length (now marks) ⌝ }
     requires { ⌜ k < length (now margins) ⌝ }
@@ -67,8 +48,16 @@ pub fn put(k: usize, p: Position, marks: &mut [u8], margins: &mut [i32], extrins
     ensures { λ _. ⌜ now (extrinsics .exit) ≡ set (now (extrinsics .entry)) k (p .extrinsic) ⌝ }
 {
     let o = p.outcome;
-    marks[k] = mark(o);
-    margins[k] = margin(o);
     let e = p.extrinsic;
     extrinsics[k] = e;
+    match o {
+        Outcome::Free(m) => {
+            marks[k] = 2;
+            margins[k] = m;
+        }
+        Outcome::Forced(bit) => {
+            marks[k] = bit;
+            margins[k] = 0;
+        }
+    }
 }
