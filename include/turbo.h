@@ -27,8 +27,8 @@ extern "C" {
 #endif
 
 /*
- * The number that a call returns; turbo_sheet returns a length instead. Of the numbers that apply, the lowest is returned; each call tests only
- * what it is lent.
+ * The number that a call returns; turbo_sheet returns a length instead. Of the numbers that apply, the first in the order 2, 15, 3, 4, .. 14 is
+ * returned, which is the order below; each call tests only what it is lent.
  *
  * After every refusal the result lists are as they were. The working list is all zeros after TURBO_DONE, TURBO_NO_PATH and
  * TURBO_FORCED_POSITION, and as it was after every other number.
@@ -37,8 +37,9 @@ enum turbo_reply {
     TURBO_DONE = 0,
     TURBO_TEXT = 1,             /* the text of a sheet; only in the answer of turbo_sheet, and returned by no call */
     TURBO_SHAPE = 2,            /* states outside 1..16, outputs outside 1..4, or a table list without two entries a state */
+    TURBO_POLYNOMIAL = 15,      /* stands after 2: memory outside 1..4, taps not below 2^(memory+1), even feedback; or f1 or f2 not below bits */
     TURBO_BRANCH = 3,           /* a next state not below the number of states, or a word not below 2^outputs */
-    TURBO_LENGTH = 4,           /* sections outside 1..4096; or bits 0, tail above 4, or bits + tail above 4096 */
+    TURBO_LENGTH = 4,           /* sections outside 1..4096; bits 0, tail above 4, or bits + tail above 4096; or a polynomial's bits above 4096 */
     TURBO_LISTS = 5,            /* another list without its exact number of entries; the frame's own only where TURBO_MASK does not apply */
     TURBO_VALUE = 6,            /* a channel value outside -1023..1023, or an a-priori value outside -8191..8191 */
     TURBO_BIT = 7,              /* a message bit other than 0 or 1 */
@@ -154,6 +155,36 @@ size_t turbo_sheet(const uint8_t *sheet, size_t sheet_len, uint8_t *answer, size
  */
 uint32_t turbo_house_next(uint8_t *list, size_t list_len);
 uint32_t turbo_house_words(uint8_t *list, size_t list_len);
+
+/*
+ * The table of a recursive systematic code named by its taps: 2^m states, 2 outputs. In a tap number bit i is the coefficient of D^i.
+ *
+ *   memory          m, 1..4: the register's bits. State bit i is the register bit i+1 steps old
+ *   feedback        below 2^(m+1) and odd: the new register bit is the sum modulo 2 of the input and of the register bits under its taps; bit 0
+ *                   stands for the new bit itself
+ *   parity          below 2^(m+1): the parity is the sum modulo 2 of the register bits under its taps, bit 0 again being the new one
+ *   next, words     2*2^m entries each, written: a table's lists
+ *
+ * Memory 2 with taps 7 and 5 is the house code; memory 3 with 13 and 11 is the eight-state code of 3GPP TS 36.212. With m tail sections a frame
+ * over such a table is never answered 12, 13 or 14.
+ *
+ * Returns 0, 2 or 15. The lists are measured only where m is in range.
+ */
+uint32_t turbo_taps_table(size_t memory, uint32_t feedback, uint32_t parity,
+                          uint8_t *next, size_t next_len,
+                          uint8_t *words, size_t words_len);
+
+/*
+ * The pattern of an interleaver given by a quadratic polynomial: entry i is (f1*i + f2*i*i) mod K.
+ *
+ *   bits            K, 1..4096
+ *   f1, f2          below K. K, f1, f2 = 40, 3, 10 starts 0 13 6 19 12
+ *   pattern         K entries, written
+ *
+ * Returns 0, 15, 4, 5 or 8; with K = 0 it is 15.
+ */
+uint32_t turbo_polynomial_pattern(size_t bits, size_t f1, size_t f2,
+                                  uint32_t *pattern, size_t pattern_len);
 
 #ifdef __cplusplus
 }

@@ -7,7 +7,9 @@ use lib.ListN.{length}
 use Rattle.refusal.specs.declared.Refusal.the-variants.{Lists}
 use Rattle.refusal.specs.declared.Reply.{Reply}
 use Rattle.refusal.specs.Refusals.{numberOf, check, after}
+use Rattle.taps.specs.Build.{TapsLent, TapsResult}
 use Rattle.siso.specs.Decode.{Lent, Result}
+use Rattle.polynomial.specs.Polynomial.{PatternResult}
 use Rattle.coder.specs.Coder.{EncodeResult}
 use Rattle.decoder.specs.Decoder.{DecodeLent, DecodeResult}
 
@@ -18,7 +20,7 @@ pub record Returned (A : Type 0) : Type 0 where
 abbrev pub returned : {A : Type 0} → ℕ → A → Returned A
 returned n lists = record { number = n; lists = lists }
 
--- the results of the lone decoder, the coder and the frame decoder, each with its reply told as a number
+-- the results of the lone decoder, the coder, the frame decoder and the two builders, each with its reply told as a number
 abbrev pub loneReturned : Result → Returned Lent
 loneReturned x = returned (numberOf (x .reply)) (x .lists)
 
@@ -27,6 +29,12 @@ encodeReturned x = returned (numberOf (x .reply)) (x .sent)
 
 abbrev pub decodeReturned : DecodeResult → Returned DecodeLent
 decodeReturned x = returned (numberOf (x .reply)) (x .lists)
+
+abbrev pub tapsReturned : TapsResult → Returned TapsLent
+tapsReturned x = returned (numberOf (x .reply)) (x .lists)
+
+abbrev pub patternReturned : PatternResult → Returned (List ℕ)
+patternReturned x = returned (numberOf (x .reply)) (x .pattern)
 
 -- entries written to a list: 5 where it is not as long, and then it is as it was
 unfoldable pub written : List ℕ → List ℕ → Returned (List ℕ)

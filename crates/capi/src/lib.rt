@@ -6,6 +6,8 @@ ghost use lib.Dec.{leb};
 ghost use lib.ListN.{length, drop};
 ghost use Rattle.refusal.specs.Refusals.{numberOf};
 ghost use Rattle.house.specs.House.{house};
+ghost use Rattle.taps.specs.Build.{tapsBuilt, tapsCallOf, tapsLentOf};
+ghost use Rattle.polynomial.specs.Polynomial.{patternBuilt, patternCallOf};
 ghost use Rattle.siso.specs.Decode.{decode as loneDecoded};
 ghost use Rattle.siso.specs.Lent.{callOf as loneCallOf, lentOf as loneLentOf};
 ghost use Rattle.coder.specs.Coder.{encode as encoded};
@@ -13,7 +15,8 @@ ghost use Rattle.coder.specs.Lent.{encodeOf};
 ghost use Rattle.decoder.specs.Decoder.{decode as decoded};
 ghost use Rattle.decoder.specs.Lent.{callOf, lentOf};
 ghost use Rattle.sheet.specs.Sheet.{answer as answerTo};
-ghost use Rattle.capi.specs.Returned.{returned, loneReturned, encodeReturned, decodeReturned, written};
+ghost use Rattle.capi.specs.Returned.{returned, loneReturned, encodeReturned, decodeReturned};
+ghost use Rattle.capi.specs.Returned.{tapsReturned, patternReturned, written};
 use refusal::Refusal;
 
 // The lone decoder.
@@ -174,4 +177,37 @@ pub extern "C" fn turbo_house_words(list: &mut [u8]) -> u32
     ensures { λ r. ⌜ returned r (now (list .exit)) ≡ written (house .words) (now (list .entry)) ⌝ }
 {
     write(turbo::house_words(), list)
+}
+
+// A table from its taps.
+#[no_mangle]
+pub extern "C" fn turbo_taps_table(
+    memory: usize,
+    feedback: u32,
+    parity: u32,
+    next: &mut [u8],
+    words: &mut [u8],
+) -> u32
+    ensures { λ r. ⌜
+        returned r (tapsLentOf (now (next .exit)) (now (words .exit)))
+        ≡ tapsReturned
+        (tapsBuilt (tapsCallOf memory feedback parity)
+        (tapsLentOf (now (next .entry)) (now (words .entry)))) ⌝ }
+{
+    refusal::number_of(turbo::taps_table(memory, feedback, parity, next, words))
+}
+
+// A pattern from its polynomial.
+#[no_mangle]
+pub extern "C" fn turbo_polynomial_pattern(
+    bits: usize,
+    f1: usize,
+    f2: usize,
+    pattern: &mut [u32],
+) -> u32
+    ensures { λ r. ⌜
+        returned r (now (pattern .exit))
+        ≡ patternReturned (patternBuilt (patternCallOf bits f1 f2) (now (pattern .entry))) ⌝ }
+{
+    refusal::number_of(turbo::polynomial_pattern(bits, f1, f2, pattern))
 }

@@ -4,4 +4,5 @@ pub mod Decoding
 pub mod Coded
 pub mod Message
 pub mod Answered
+pub mod Codes
 pub mod laws

@@ -15,3 +15,5 @@ pub mod Passes
 pub mod RightIterations
 pub mod RightSigned
 pub mod EverySheet
+pub mod Tailed
+pub mod EveryCode

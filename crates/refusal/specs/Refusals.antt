@@ -1,5 +1,5 @@
 -- Refusals: the number and the line of each, the first that applies, and what a reply leaves of the lists that were lent
--- (document 01, "Refused frames and calls").
+-- (document 01, "Refused frames and calls"; document 02 adds 15, which stands after 2).
 -- Assumes nothing.
 use mathlib.Core.Bool.{Bool, true, false, cond, _||_}
 use mathlib.Core.List.{List}
@@ -8,7 +8,7 @@ use lib.Dec.{eqb}
 use lib.IntN.{ℤ, pos}
 use lib.ListN.{length, replicate}
 use Rattle.refusal.specs.declared.Refusal.{Refusal}
-use Rattle.refusal.specs.declared.Refusal.the-variants.{Text, Shape, Branch, Length, Lists, Value, Bit, Pattern, Mask, Iterations, Coder, NoPath, ForcedPosition, NoTail}
+use Rattle.refusal.specs.declared.Refusal.the-variants.{Text, Shape, Polynomial, Branch, Length, Lists, Value, Bit, Pattern, Mask, Iterations, Coder, NoPath, ForcedPosition, NoTail}
 use Rattle.refusal.specs.declared.Reply.{Reply}
 use Rattle.refusal.specs.declared.Reply.the-variants.{Done, Refused}
 
@@ -24,6 +24,7 @@ plain n = record { number = n; line = 0 }
 unfoldable pub told : Refusal → Told
 told (Text line) = record { number = 1; line = line }
 told Shape = plain 2
+told Polynomial = plain 15
 told Branch = plain 3
 told Length = plain 4
 told Lists = plain 5

@@ -6,6 +6,8 @@ pub enum Refusal {
     // The sheet's text, with the faulty line, or 0.
     Text(usize),
     Shape,
+    // Taps, or coefficients of a pattern's polynomial, out of range. It stands after 2.
+    Polynomial,
     Branch,
     Length,
     Lists,
@@ -25,13 +27,14 @@ pub enum Reply {
     Refused(Refusal),
 }
 
-// The number of a refusal, as document 01's table has it.
+// The number of a refusal, as the papers' tables have it.
 pub fn number_of_refusal(why: Refusal) -> u32
     ensures { λ r. ⌜ r ≡ told why .number ⌝ }
 {
     match why {
         Refusal::Text(_) => 1,
         Refusal::Shape => 2,
+        Refusal::Polynomial => 15,
         Refusal::Branch => 3,
         Refusal::Length => 4,
         Refusal::Lists => 5,

@@ -4,6 +4,9 @@ use crate::lent::List;
 use plain::{clears_work, coder, frame_decoder, listing, lone};
 use turbo::raw;
 
+// Numbers are below this; it stands for an answer that is none.
+pub const NUMBERS: u32 = 16;
+
 pub struct Answer {
     pub number: u32,
     // Of a sheet refused by 1; else 0.
@@ -11,20 +14,20 @@ pub struct Answer {
     pub differences: Vec<String>,
 }
 
-struct Differences(Vec<String>);
+pub struct Differences(pub Vec<String>);
 
 impl Differences {
-    fn new(number: u32, asked: u32) -> Differences {
+    pub fn new(number: u32, asked: u32) -> Differences {
         Differences(if number == asked { Vec::new() } else { vec![format!("number {number}, asked {asked}")] })
     }
 
-    fn add(&mut self, checked: Result<(), String>) {
+    pub fn add(&mut self, checked: Result<(), String>) {
         self.0.extend(checked.err());
     }
 }
 
 // Half of the calls have no fault, most others one, and some two or three.
-fn faults(d: &mut Draw) -> usize {
+pub fn faults(d: &mut Draw) -> usize {
     match d.below(20) {
         0..=9 => 0,
         10..=16 => 1,
@@ -33,7 +36,7 @@ fn faults(d: &mut Draw) -> usize {
     }
 }
 
-fn short(d: &mut Draw) -> usize {
+pub fn short(d: &mut Draw) -> usize {
     match d.below(10) {
         0..=5 => 12,
         6..=8 => 64,
@@ -157,7 +160,11 @@ pub fn encode(d: &mut Draw, most: Option<usize>) -> Answer {
             _ => sent_len = draw::off(d, sent_len),
         }
     }
-    let asked = coder::encode(&call, sent_len);
+    encoded(d, &call, sent_len)
+}
+
+pub fn encoded(d: &mut Draw, call: &coder::Call, sent_len: usize) -> Answer {
+    let asked = coder::encode(call, sent_len);
     let (f, t) = (&call.frame, &call.frame.table);
 
     let next = List::of("next", d, &t.next);
@@ -203,6 +210,12 @@ pub fn received(d: &mut Draw, frame: &plain::Frame) -> Vec<i16> {
     draw::values(d, length, 1023)
 }
 
+// Lists of the lengths that the frame decoder asks for.
+pub fn lent_for(frame: &plain::Frame) -> frame_decoder::Lent {
+    let k = frame.bits;
+    frame_decoder::Lent { bits: k, margins: k, extrinsics: k, work: (k + frame.tail + 1) * frame.table.states }
+}
+
 pub fn decode(d: &mut Draw, most: Option<usize>) -> Answer {
     let iterations = if most.is_some() || d.chance(4) { d.size(1, 32) } else { d.size(1, 4) };
     let frame = match most {
@@ -221,9 +234,8 @@ pub fn decode(d: &mut Draw, most: Option<usize>) -> Answer {
             draw::frame(d, most)
         }
     };
-    let k = frame.bits;
     let received = received(d, &frame);
-    let mut lent = frame_decoder::Lent { bits: k, margins: k, extrinsics: k, work: (k + frame.tail + 1) * frame.table.states };
+    let mut lent = lent_for(&frame);
     let mut call = frame_decoder::Call { frame, received, iterations };
     for _ in 0..faults(d) {
         match d.below(14) {
@@ -243,7 +255,11 @@ pub fn decode(d: &mut Draw, most: Option<usize>) -> Answer {
             _ => lent.work = draw::off(d, lent.work),
         }
     }
-    let asked = frame_decoder::decode(&call, lent);
+    decoded(d, &call, lent)
+}
+
+pub fn decoded(d: &mut Draw, call: &frame_decoder::Call, lent: frame_decoder::Lent) -> Answer {
+    let asked = frame_decoder::decode(call, lent);
     let (f, t) = (&call.frame, &call.frame.table);
 
     let next = List::of("next", d, &t.next);

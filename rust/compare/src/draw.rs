@@ -108,16 +108,20 @@ pub fn values(d: &mut Draw, n: usize, limit: i64) -> Vec<i16> {
         .collect()
 }
 
+pub fn masks(d: &mut Draw) -> Vec<u8> {
+    let period = d.size(1, 16);
+    match d.below(4) {
+        0 => vec![7],
+        1 => vec![6, 5],
+        _ => (0..period).map(|_| d.below(8) as u8).collect(),
+    }
+}
+
 // A frame in limits. `most` bounds K + T.
 pub fn frame(d: &mut Draw, most: usize) -> Frame {
     let tail = d.below(5).min(most - 1);
     let bits = d.size(1, most - tail);
-    let period = d.size(1, 16);
-    let masks = match d.below(4) {
-        0 => vec![7],
-        1 => vec![6, 5],
-        _ => (0..period).map(|_| d.below(8) as u8).collect(),
-    };
+    let masks = masks(d);
     Frame { table: table(d, 2, true), bits, tail, pattern: permutation(d, bits), masks }
 }
 

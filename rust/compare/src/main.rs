@@ -1,9 +1,12 @@
 //! Random calls of the static library against the plain receiver: tables of every size, frames short and long, sheets of every K, valid and
-//! damaged calls; and sheets with the answers that document 01 asks for. The number returned, every list written, every list read and what stands
-//! beside each list are compared. Exit status 1 on any difference, or where a number that an entry can give, or a line that it must tell, was
-//! never given.
+//! damaged calls; sheets with the answers that document 01 asks for; every table from taps, every polynomial pattern of up to 200 entries, and
+//! frames over such tables. The number returned, every list written, every list read and what stands beside each list are compared. Exit status 1
+//! on any difference, or where a number that an entry can give, or a line that it must tell, was never given, or where one was given that it must
+//! not give.
 //!
-//!     compare                   120,000 short calls and 260 long ones; 1,024 sheets of every K, 515 with a fault in each line, 33,000 damaged ones
+//!     compare                   120,000 short calls and 260 long ones; all 680 tables from taps and 20,000 damaged calls for one; the patterns of
+//!                               all 2,686,700 polynomials with K up to 200, and 20,000 drawn and damaged ones up to 4,096; 20,000 frames over
+//!                               tables from taps; 1,024 sheets of every K, 515 with a fault in each line, 33,000 damaged ones
 //!     compare --long            twenty times the calls
 //!     compare --seed N          other calls; the seed is printed
 //!     compare --only STAGE      one stage
@@ -14,8 +17,9 @@ mod lent;
 mod sheet_cases;
 mod sheet_faults;
 mod sheets;
+mod taps;
 
-use calls::Answer;
+use calls::{Answer, NUMBERS};
 use draw::Draw;
 use sheet_cases::CASES;
 use std::ops::Range;
@@ -42,7 +46,8 @@ const EACH: Stage = Stage { name: "", calls: 0, run: |_, _| unreachable!(), numb
 const LONE: &[u32] = &[0, 2, 3, 4, 5, 6, 12];
 const CODER: &[u32] = &[0, 2, 3, 4, 5, 7, 8, 9, 11, 14];
 const DECODER: &[u32] = &[0, 2, 3, 4, 5, 6, 8, 9, 10, 11, 12, 13];
-
+const TABLE: &[u32] = &[0, 2, 15];
+const PATTERN: &[u32] = &[0, 4, 5, 8, 15];
 const SHEET: &[u32] = &[0, 1, 6, 8];
 
 const STAGES: &[Stage] = &[
@@ -53,6 +58,13 @@ const STAGES: &[Stage] = &[
     Stage { name: "lone-long", calls: 100, run: |d, _| calls::lone_decode(d, Some(4096)), numbers: LONE, all: false, ..EACH },
     Stage { name: "coder-long", calls: 100, run: |d, _| calls::encode(d, Some(4096)), numbers: CODER, all: false, ..EACH },
     Stage { name: "decoder-long", calls: 60, run: |d, _| calls::decode(d, Some(4096)), numbers: DECODER, all: false, ..EACH },
+    Stage { name: "taps", calls: taps::CODES, run: taps::every_table, numbers: &[0], once: true, ..EACH },
+    Stage { name: "taps-damaged", calls: 20_000, run: |d, _| taps::damaged_table(d), numbers: TABLE, ..EACH },
+    Stage { name: "polynomials", calls: taps::POLYNOMIALS, run: taps::every_pattern, numbers: &[0, 8], once: true, ..EACH },
+    Stage { name: "polynomials-drawn", calls: 20_000, run: |d, _| taps::drawn_pattern(d), numbers: PATTERN, ..EACH },
+    // As many tail sections as register bits: no frame is refused, so never by 12, 13 or 14.
+    Stage { name: "taps-coder", calls: 10_000, run: |d, _| taps::encode(d), numbers: &[0], ..EACH },
+    Stage { name: "taps-decoder", calls: 10_000, run: |d, _| taps::decode(d), numbers: &[0], ..EACH },
     Stage { name: "sheet-cases", calls: CASES.len() as u64, run: sheets::case, numbers: SHEET, lines: 0..5, once: true, ..EACH },
     Stage { name: "sheet", calls: 1_024, run: |d, i| sheets::valid(d, i as usize % 512 + 1), numbers: &[0], ..EACH },
     Stage { name: "sheet-lines", calls: 515, run: |d, i| sheets::faulty(d, i as usize % 515), numbers: &[1], lines: 1..516, ..EACH },
@@ -78,11 +90,11 @@ fn number(word: Option<String>) -> u64 {
 // Runs a stage and says whether all is well.
 fn run(s: &Stage, seed: u64, times: u64) -> bool {
     let calls = if s.once { s.calls } else { s.calls * times };
-    let (mut given, mut lines) = ([0u64; 16], vec![0u64; 1 << 10]);
+    let (mut given, mut lines) = (vec![0u64; NUMBERS as usize + 1], vec![0u64; 1 << 10]);
     let (mut differing, mut told) = (0, Instant::now());
     for i in 0..calls {
         let answer = (s.run)(&mut Draw::for_call(seed, s.name, i), i);
-        given[(answer.number as usize).min(15)] += 1;
+        given[answer.number.min(NUMBERS) as usize] += 1;
         lines[answer.line.min(1023)] += (answer.number == 1) as u64;
         if !answer.differences.is_empty() {
             differing += 1;
@@ -95,15 +107,15 @@ fn run(s: &Stage, seed: u64, times: u64) -> bool {
             told = Instant::now();
         }
     }
-    let counts: Vec<String> = (0..16).filter(|&n| given[n] > 0).map(|n| format!("{n}:{}", given[n])).collect();
+    let counts: Vec<String> = (0..given.len()).filter(|&n| given[n] > 0).map(|n| format!("{n}:{}", given[n])).collect();
     println!("{}: seed {seed}, {calls} calls, {differing} differ; numbers given {}", s.name, counts.join(" "));
     all_given(s, &given) & all_told(s, &lines) & (differing == 0)
 }
 
 // The numbers given are those of the stage.
-fn all_given(s: &Stage, given: &[u64; 16]) -> bool {
+fn all_given(s: &Stage, given: &[u64]) -> bool {
     let mut good = true;
-    for n in 0..16 {
+    for n in 0..given.len() {
         let wanted = s.numbers.contains(&(n as u32));
         if wanted && given[n] == 0 && (s.all || n == 0) {
             println!("{}: {n} was never given", s.name);

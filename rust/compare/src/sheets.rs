@@ -1,5 +1,5 @@
 // Sheets: drawn from their seed, answered by both sides, and compared as bytes, in lists with and without room for the answer.
-use crate::calls::{received, Answer};
+use crate::calls::{received, Answer, NUMBERS};
 use crate::draw::{permutation, Draw};
 use crate::lent::List;
 use crate::sheet_cases::CASES;
@@ -44,13 +44,13 @@ pub fn lines(d: &mut Draw, bits: usize) -> Vec<String> {
     lines
 }
 
-// The number and the line that an answer tells; 15 stands for an answer that is none.
+// The number and the line that an answer tells.
 fn outcome(answer: &[u8]) -> (u32, usize) {
     let answer = String::from_utf8_lossy(answer);
     match answer.strip_prefix("refused line\n").map(|rest| rest.trim_end().split_once(' ')) {
         None => (0, 0),
-        Some(None) => (15, 0),
-        Some(Some((number, line))) => (number.parse().unwrap_or(15), line.parse().unwrap_or(0)),
+        Some(None) => (NUMBERS, 0),
+        Some(Some((number, line))) => (number.parse().unwrap_or(NUMBERS), line.parse().unwrap_or(0)),
     }
 }
 

@@ -1,5 +1,5 @@
-//! The receiver again, written plainly from document 01, with code and structure of its own: to compare with, not to use. Where a sentence about
-//! sheets is unclear, it is read as docs/DECISIONS.md says.
+//! The receiver again, written plainly from document 01 and request 1 of document 02, with code and structure of its own: to compare with, not to
+//! use. Where a sentence about sheets is unclear, it is read as docs/DECISIONS.md says.
 //!
 //! Refusals are rule by rule: every number that applies is gathered, and the lowest is given. Sizes are compared as 128-bit numbers, so no
 //! product wraps. Metrics are 64-bit, and an unreached state has none.
@@ -11,6 +11,7 @@ pub mod listing;
 pub mod lone;
 mod rules;
 pub mod sheet;
+pub mod taps;
 
 /// S states and n outputs, as told, and the lists of next states and words, which hold the branch of state s and bit b at 2·s + b.
 #[derive(Clone, Debug)]

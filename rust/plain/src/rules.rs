@@ -1,12 +1,17 @@
-// The conditions of document 01's table, one function each. They may be asked in any order and of any call.
+// The conditions of document 01's table and of document 02, one function each. They may be asked in any order and of any call.
+use crate::taps::{Code, Polynomial};
 use crate::{Frame, Table};
 
 pub const CHANNEL_LIMIT: i32 = 1023;
 pub const APRIORI_LIMIT: i32 = 8191;
 pub const MOST_SECTIONS: u128 = 4096;
 
+// The numbers from the lowest on: 15 stands after 2 and before 3.
+const ORDER: [u32; 15] = [1, 2, 15, 3, 4, 5, 6, 7, 8, 9, 10, 11, 12, 13, 14];
+
 pub fn lowest(applying: &[(u32, bool)]) -> Option<u32> {
-    applying.iter().filter(|a| a.1).map(|a| a.0).min()
+    let place = |number: &u32| ORDER.iter().position(|n| n == number).expect("a number of the order");
+    applying.iter().filter(|a| a.1).map(|a| a.0).min_by_key(place)
 }
 
 fn differs(length: usize, asked: u128) -> bool {
@@ -17,6 +22,34 @@ fn differs(length: usize, asked: u128) -> bool {
 pub fn shape(t: &Table) -> bool {
     let s = t.states as u128;
     !(1..=16).contains(&s) || !(1..=4).contains(&t.outputs) || differs(t.next.len(), 2 * s) || differs(t.words.len(), 2 * s)
+}
+
+// 2, for the lists of a table from taps: measured only where the memory is in range
+pub fn tap_lists(code: &Code, lengths: [usize; 2]) -> bool {
+    let branches = match code.memory {
+        1 => 4,
+        2 => 8,
+        3 => 16,
+        4 => 32,
+        _ => return false,
+    };
+    lengths != [branches; 2]
+}
+
+// 15, of a code and of a polynomial
+pub fn taps(code: &Code) -> bool {
+    let most = match code.memory {
+        1 => 0b11,
+        2 => 0b111,
+        3 => 0b1111,
+        4 => 0b11111,
+        _ => return true,
+    };
+    code.feedback > most || code.parity > most || code.feedback & 1 == 0
+}
+
+pub fn factors(p: &Polynomial) -> bool {
+    p.f1 >= p.bits || p.f2 >= p.bits
 }
 
 // 3

@@ -73,4 +73,8 @@ extern "C" {
     pub fn turbo_house_next(list: *mut u8, list_len: usize) -> u32;
 
     pub fn turbo_house_words(list: *mut u8, list_len: usize) -> u32;
+
+    pub fn turbo_taps_table(memory: usize, feedback: u32, parity: u32, next: *mut u8, next_len: usize, words: *mut u8, words_len: usize) -> u32;
+
+    pub fn turbo_polynomial_pattern(bits: usize, f1: usize, f2: usize, pattern: *mut u32, pattern_len: usize) -> u32;
 }

@@ -1,8 +1,9 @@
 //! The proved turbo frame receiver, safely.
 //!
-//! [`Table`] and [`Frame`] hold what coder and decoder agree on. [`encode`], [`decode`] and [`lone_decode`] make every list that the library
-//! writes, of the right length; what is left to refuse is told as a [`Refusal`]. [`sheet`] answers a sheet's text with text. The library itself
-//! makes every check, so none is made twice and in another way here. [`raw`] has the same calls on the caller's own lists.
+//! [`Table`] and [`Frame`] hold what coder and decoder agree on; a table may be built from a code's taps ([`Table::from_taps`]) and a pattern from a
+//! polynomial ([`polynomial_pattern`]). [`encode`], [`decode`] and [`lone_decode`] make every list that the library writes, of the right length;
+//! what is left to refuse is told as a [`Refusal`]. [`sheet`] answers a sheet's text with text. The library itself makes every check, so none is
+//! made twice and in another way here. [`raw`] has the same calls on the caller's own lists.
 
 mod ffi;
 pub mod raw;
@@ -37,6 +38,17 @@ impl Table {
         Table { outputs: 2, next, words }
     }
 
+    /// The code whose feedback and parity taps are given as numbers, bit i being the coefficient of D^i: 2^memory states, two outputs. Memory 3
+    /// with taps 13 and 11 is the eight-state code of 3GPP TS 36.212.
+    pub fn from_taps(memory: usize, feedback: u32, parity: u32) -> Result<Table, Refusal> {
+        // A memory out of limits is refused before the lists are measured.
+        let long = if memory > MOST_MEMORY { 0 } else { 2 << memory };
+        let mut next = vec![0; long];
+        let mut words = vec![0; long];
+        told(raw::taps_table(memory, feedback, parity, &mut next, &mut words))?;
+        Ok(Table { outputs: 2, next, words })
+    }
+
     pub fn states(&self) -> usize {
         self.next.len() / 2
     }
@@ -60,6 +72,7 @@ pub struct Frame {
 
 // No list is longer than these limits need.
 const MOST_STATES: usize = 16;
+const MOST_MEMORY: usize = 4;
 const MOST_SECTIONS: usize = 4096;
 const ANSWER_ROOM: usize = 24_600;
 
@@ -107,6 +120,14 @@ fn working_list(sections: usize, states: usize) -> Vec<i32> {
         return Vec::new();
     }
     vec![0; (sections + 1) * states]
+}
+
+/// The pattern of K = `bits` entries whose entry i is (f1·i + f2·i²) mod K.
+pub fn polynomial_pattern(bits: usize, f1: usize, f2: usize) -> Result<Vec<u32>, Refusal> {
+    // More bits than the limit are refused before the list is measured.
+    let mut pattern = vec![0; if bits > MOST_SECTIONS { 0 } else { bits }];
+    told(raw::polynomial_pattern(bits, f1, f2, &mut pattern))?;
+    Ok(pattern)
 }
 
 /// The frame sent for a message of K bits, a bit an entry.

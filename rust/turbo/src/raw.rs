@@ -140,3 +140,13 @@ pub fn house_words(list: &mut [u8]) -> u32 {
     // SAFETY: as above.
     unsafe { ffi::turbo_house_words(list.as_mut_ptr(), list.len()) }
 }
+
+pub fn taps_table(memory: usize, feedback: u32, parity: u32, next: &mut [u8], words: &mut [u8]) -> u32 {
+    // SAFETY: as above.
+    unsafe { ffi::turbo_taps_table(memory, feedback, parity, next.as_mut_ptr(), next.len(), words.as_mut_ptr(), words.len()) }
+}
+
+pub fn polynomial_pattern(bits: usize, f1: usize, f2: usize, pattern: &mut [u32]) -> u32 {
+    // SAFETY: as above.
+    unsafe { ffi::turbo_polynomial_pattern(bits, f1, f2, pattern.as_mut_ptr(), pattern.len()) }
+}

@@ -1,6 +1,7 @@
 use std::fmt;
 
-/// Why a call was refused, by the numbers of document 01's table.
+/// Why a call was refused, by the numbers of document 01's table and of document 02. Where several apply, a call is refused by the lowest, 15
+/// standing between 2 and 3; the order of this type is that of the numbers alone.
 #[derive(Clone, Copy, Debug, PartialEq, Eq, Hash, PartialOrd, Ord)]
 #[repr(u32)]
 pub enum Refusal {
@@ -18,10 +19,11 @@ pub enum Refusal {
     NoPath = 12,
     ForcedPosition = 13,
     NoTail = 14,
+    Polynomial = 15,
 }
 
 impl Refusal {
-    pub const ALL: [Refusal; 14] = [
+    pub const ALL: [Refusal; 15] = [
         Refusal::Text,
         Refusal::Shape,
         Refusal::Branch,
@@ -36,6 +38,7 @@ impl Refusal {
         Refusal::NoPath,
         Refusal::ForcedPosition,
         Refusal::NoTail,
+        Refusal::Polynomial,
     ];
 
     pub fn number(self) -> u32 {
@@ -63,6 +66,7 @@ impl Refusal {
             Refusal::NoPath => "no path of that length leads from state 0 to state 0",
             Refusal::ForcedPosition => "every path has the same bit at some message position, so it has no margin",
             Refusal::NoTail => "no inputs of the tail lead a coder back to state 0",
+            Refusal::Polynomial => "memory must be 1 to 4, both tap numbers below 2^(memory+1), the feedback number odd; f1 and f2 below K",
         }
     }
 }

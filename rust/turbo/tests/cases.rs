@@ -104,5 +104,5 @@ fn refusals_have_the_numbers_of_the_table() {
         assert_eq!(Refusal::from_number(r.number()), Some(r));
     }
     assert_eq!(Refusal::from_number(0), None);
-    assert_eq!(Refusal::from_number(15), None);
+    assert_eq!(Refusal::from_number(16), None);
 }

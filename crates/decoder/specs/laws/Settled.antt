@@ -17,7 +17,7 @@ use Rattle.refusal.specs.declared.Reply.{Reply}
 use Rattle.refusal.specs.declared.Reply.the-variants.{Done, Refused}
 use Rattle.refusal.specs.Refusals.{told, check, _then_, after, cleared}
 use Rattle.refusal.specs.laws.Checks.{done-then, refused-then}
-use Rattle.refusal.specs.laws.Kept.{Early, spares, early-check, early-then, early-keeps}
+use Rattle.refusal.specs.laws.Kept.{Early, spares, gives-check, gives-then, early-keeps}
 use Rattle.trellis.specs.Table.{systematic, shaped, branched}
 use Rattle.trellis.specs.Limits.{channelFits}
 use Rattle.trellis.specs.Outcome.{pathless, forced}
@@ -53,26 +53,26 @@ walked-clears c work = go (not (pathless (c .frame .table) (sections (c .frame))
 
 module _ (c : DecodeCall) (l : DecodeLent) where
   -- the checks give neither 12 nor 13
-  checked-early : Early (decodeChecked c l)
+  pub checked-early : Early (decodeChecked c l)
   unfolding decodeChecked spares told
   checked-early =
-      early-then
-      (early-check (shaped (c .frame .table)) Shape refl)
-      (early-then
-      (early-check (branched (c .frame .table)) Branch refl)
-      (early-then
-      (early-check (sizesFit (c .frame)) Length refl)
-      (early-then
-      (early-check (decodeListsFit c l) Lists refl)
-      (early-then
-      (early-check (channelFits (c .received)) Value refl)
-      (early-then
-      (early-check (permutes (c .frame .bits) (c .frame .pattern)) Pattern refl)
-      (early-then
-      (early-check (masksFit (c .frame)) Mask refl)
-      (early-then
-      (early-check (goodIterations (c .iterations)) Iterations refl)
-      (early-check (codes (c .frame)) Coder refl))))))))
+      gives-then
+      (gives-check (shaped (c .frame .table)) Shape refl)
+      (gives-then
+      (gives-check (branched (c .frame .table)) Branch refl)
+      (gives-then
+      (gives-check (sizesFit (c .frame)) Length refl)
+      (gives-then
+      (gives-check (decodeListsFit c l) Lists refl)
+      (gives-then
+      (gives-check (channelFits (c .received)) Value refl)
+      (gives-then
+      (gives-check (permutes (c .frame .bits) (c .frame .pattern)) Pattern refl)
+      (gives-then
+      (gives-check (masksFit (c .frame)) Mask refl)
+      (gives-then
+      (gives-check (goodIterations (c .iterations)) Iterations refl)
+      (gives-check (codes (c .frame)) Coder refl))))))))
 
   pub decode-refused : (r : Refusal) → decodeChecked c l ≡ Refused r → record { reply = Refused r; lists = l } ≡ decode c l
   unfolding decode decodeReply decodeSettled after

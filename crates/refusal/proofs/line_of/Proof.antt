@@ -7,7 +7,7 @@ use denote.Enum.Declared.{tagOf}
 use types.Run.{OneOf, miss}
 use borrow.Author.Needs.{needs}
 use Rattle.refusal.specs.declared.Refusal.{Refusal}
-use Rattle.refusal.specs.declared.Refusal.the-variants.{Text, Shape, Branch, Length, Lists, Value, Bit, Pattern, Mask, Iterations, Coder, NoPath, ForcedPosition, NoTail}
+use Rattle.refusal.specs.declared.Refusal.the-variants.{Text, Shape, Polynomial, Branch, Length, Lists, Value, Bit, Pattern, Mask, Iterations, Coder, NoPath, ForcedPosition, NoTail}
 use Rattle.refusal.specs.Refusals.{told}
 use Rattle.refusal.proofs.Refusal.{the-type}
 use Rattle.refusal.proofs.line_of.Statement.{statement}
@@ -15,12 +15,13 @@ use Rattle.refusal.proofs.line_of.Tie as tie
 
 -- the refusals but for the text's
 abbrev others : List ℕ
-others = 1 ∷ 2 ∷ 3 ∷ 4 ∷ 5 ∷ 6 ∷ 7 ∷ 8 ∷ 9 ∷ 10 ∷ 11 ∷ 12 ∷ 13 ∷ []
+others = 1 ∷ 2 ∷ 3 ∷ 4 ∷ 5 ∷ 6 ∷ 7 ∷ 8 ∷ 9 ∷ 10 ∷ 11 ∷ 12 ∷ 13 ∷ 14 ∷ []
 
 lineless : (r : Refusal) → OneOf others (tagOf the-type r) → 0 ≡ told r .line
 unfolding told
 lineless (Text line) h = absurd (miss others 0 tt h)
 lineless Shape h = refl
+lineless Polynomial h = refl
 lineless Branch h = refl
 lineless Length h = refl
 lineless Lists h = refl

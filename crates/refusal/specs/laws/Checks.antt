@@ -6,7 +6,7 @@ use mathlib.Core.Bool.{Bool, true, false, false≢true}
 use Prim.Native.Nat.{ℕ, _≤_}
 use native.Mathlib.Omega.{arith}
 use Rattle.refusal.specs.declared.Refusal.{Refusal}
-use Rattle.refusal.specs.declared.Refusal.the-variants.{Text, Shape, Branch, Length, Lists, Value, Bit, Pattern, Mask, Iterations, Coder, NoPath, ForcedPosition, NoTail}
+use Rattle.refusal.specs.declared.Refusal.the-variants.{Text, Shape, Polynomial, Branch, Length, Lists, Value, Bit, Pattern, Mask, Iterations, Coder, NoPath, ForcedPosition, NoTail}
 use Rattle.refusal.specs.declared.Reply.{Reply}
 use Rattle.refusal.specs.declared.Reply.the-variants.{Done, Refused}
 use Rattle.refusal.specs.Refusals.{told, check, _then_}
@@ -66,10 +66,11 @@ done-after (Refused r) e = refl
 
 -- ---- numbers
 
-pub number-small : (r : Refusal) → told r .number ≤ 14
+pub number-small : (r : Refusal) → told r .number ≤ 15
 unfolding told
 number-small (Text line) = omega arith
 number-small Shape = omega arith
+number-small Polynomial = omega arith
 number-small Branch = omega arith
 number-small Length = omega arith
 number-small Lists = omega arith

@@ -14,7 +14,7 @@ use Rattle.refusal.specs.declared.Refusal.the-variants.{Shape, Branch, Length, 
 use Rattle.refusal.specs.declared.Reply.the-variants.{Done, Refused}
 use Rattle.refusal.specs.Refusals.{told, check, after, cleared}
 use Rattle.refusal.specs.laws.Checks.{done-then, refused-then}
-use Rattle.refusal.specs.laws.Kept.{spares, Early, early-check, early-then, early-keeps}
+use Rattle.refusal.specs.laws.Kept.{spares, Early, gives-check, gives-then, early-keeps}
 use Rattle.trellis.specs.Table.{Table, shaped, branched}
 use Rattle.trellis.specs.Path.{Values}
 use Rattle.trellis.specs.Limits.{sectionsFit, channelFits, aprioriFits}
@@ -59,15 +59,15 @@ module _ (c : Call) (l : Lent) where
   checked-early : Early (checked c l)
   unfolding checked spares told
   checked-early =
-      early-then
-      (early-check (shaped (c .table)) Shape refl)
-      (early-then
-      (early-check (branched (c .table)) Branch refl)
-      (early-then
-      (early-check (sectionsFit (c .sections)) Length refl)
-      (early-then
-      (early-check (listsFit c l) Lists refl)
-      (early-check (channelFits (c .values .channel) && aprioriFits (c .values .apriori)) Value refl))))
+      gives-then
+      (gives-check (shaped (c .table)) Shape refl)
+      (gives-then
+      (gives-check (branched (c .table)) Branch refl)
+      (gives-then
+      (gives-check (sectionsFit (c .sections)) Length refl)
+      (gives-then
+      (gives-check (listsFit c l) Lists refl)
+      (gives-check (channelFits (c .values .channel) && aprioriFits (c .values .apriori)) Value refl))))
 
   -- a refused call leaves everything as it was
   pub decode-refused : (r : Refusal) → checked c l ≡ Refused r → record { reply = Refused r; lists = l } ≡ decode c l

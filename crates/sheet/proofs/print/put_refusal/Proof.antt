@@ -19,7 +19,7 @@ number-of-refusal-requires c κs = search needs
 
 cast-number : tie.Need-cast-number
 cast-number c =
-    let small : c .number-of-refusal .result ≤ 14 = rw (c .number-of-refusal .ensures) (number-small (c .before .before .args .why)) in
+    let small : c .number-of-refusal .result ≤ 15 = rw (c .number-of-refusal .ensures) (number-small (c .before .before .args .why)) in
     simp ints (omega arith)
 
 line-of-requires : tie.Need-line-of-requires

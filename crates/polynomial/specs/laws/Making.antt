@@ -1,0 +1,81 @@
+-- What the builder of a pattern relies on: K and both coefficients are small, so that no sum wraps.
+-- Assumes nothing.
+use mathlib.Core.Path.{_≡_, sym, ap, _∙_}
+use mathlib.Core.Bool.{true, false}
+use mathlib.Core.List.{List}
+use Prim.Native.Nat.{ℕ, _+_, _*_, _^_, _≤_, _<_}
+use native.Mathlib.Nat.{mul-assoc, mul-le-mul, one-mul, pow-suc, pow-zero}
+use native.Mathlib.Omega.{arith}
+use lib.ListN.{length}
+use borrow.Author.Tests.{ltb-true, eqb-true}
+use Rattle.lists.specs.laws.Listed.{listed-length}
+use Rattle.lists.specs.laws.Tests.{and-both}
+use Rattle.refusal.specs.declared.Refusal.{Refusal}
+use Rattle.refusal.specs.declared.Refusal.the-variants.{Polynomial, Length, Lists, Pattern}
+use Rattle.refusal.specs.declared.Reply.the-variants.{Done, Refused}
+use Rattle.refusal.specs.Refusals.{check, after}
+use Rattle.refusal.specs.laws.Checks.{check-is-done, first-passed, done-then, refused-then}
+use Rattle.frame.specs.Interleaver.{permutes}
+use Rattle.frame.specs.laws.Checked.{sizes-small}
+use Rattle.polynomial.specs.Polynomial.{PatternCall, entryAt, entries, coefficientsFit, bitsFit, sizesReply, patternReply, patternResultOf, patternBuilt}
+
+-- K and both coefficients within their limits
+pub record Small (c : PatternCall) : Type 0 where
+  pub few : c .bits ≤ 4096
+  pub f1-below : c .f1 < c .bits
+  pub f2-below : c .f2 < c .bits
+
+-- ---- the products of an entry, of a coefficient and an index below 4,096
+
+pub linear-small : {a i : ℕ} → a < 4096 → i < 4096 → a * i ≤ 4095 * 4095
+linear-small {a} {i} h k = mul-le-mul {n₂ = 4095} {m₂ = 4095} (omega arith) (omega arith)
+
+pub square-small : {a i : ℕ} → a < 4096 → i < 4096 → a * i * i ≤ 4095 * 4095 * 4095
+square-small {a} {i} h k = mul-le-mul {m₂ = 4095} (linear-small h k) (omega arith)
+
+pub squared : (a i : ℕ) → a * i * i ≡ a * i ^ 2
+squared a i = mul-assoc a i i ∙ ap (λ (x : ℕ). a * x) (sym (pow-suc i 1 ∙ ap (λ (x : ℕ). x * i) itself))
+  where
+    itself : i ^ 1 ≡ i
+    itself = pow-suc i 0 ∙ ap (λ (x : ℕ). x * i) (pow-zero i) ∙ one-mul i
+
+module _ (c : PatternCall) where
+  pub entries-long : length (entries c) ≡ c .bits
+  unfolding entries
+  entries-long = listed-length (entryAt c) (c .bits)
+
+-- ---- a call: refused, or built
+
+module _ (c : PatternCall) (pattern : List ℕ) where
+  pub record Fitting : Type 0 where
+    pub small : Small c
+    pub long : length pattern ≡ c .bits
+
+  pub fitting : sizesReply c (length pattern) ≡ Done → Fitting
+  unfolding sizesReply coefficientsFit bitsFit
+  fitting e =
+      let (coefficients, after-coefficients) = first-passed _ Polynomial _ e in
+      let (sizes, after-sizes) = first-passed _ Length _ after-coefficients in
+      let few : c .bits ≤ 4096 = omega (arith, sizes-small (c .bits) 0 sizes .1) in
+      let (f1, f2) = and-both _ _ coefficients in
+      record {
+        small = record {
+          few = few;
+          f1-below = ltb-true _ _ f1;
+          f2-below = ltb-true _ _ f2;
+        };
+        long = eqb-true _ _ (check-is-done _ Lists .0 after-sizes);
+      }
+
+  pub built-refused : (r : Refusal) → sizesReply c (length pattern) ≡ Refused r → patternResultOf (Refused r) pattern ≡ patternBuilt c pattern
+  unfolding patternBuilt patternReply after
+  built-refused r e = rw (refused-then (check (permutes (c .bits) (entries c)) Pattern) e)
+
+  module _ (passed : sizesReply c (length pattern) ≡ Done) where
+    pub built-no-pattern : permutes (c .bits) (entries c) ≡ false → patternResultOf (Refused Pattern) pattern ≡ patternBuilt c pattern
+    unfolding patternBuilt patternReply after check
+    built-no-pattern e = rw (done-then {y = check (permutes (c .bits) (entries c)) Pattern} passed, e)
+
+    pub built-done : {made : List ℕ} → permutes (c .bits) (entries c) ≡ true → made ≡ entries c → patternResultOf Done made ≡ patternBuilt c pattern
+    unfolding patternBuilt patternReply after check
+    built-done e is = rw (done-then {y = check (permutes (c .bits) (entries c)) Pattern} passed, e, is)

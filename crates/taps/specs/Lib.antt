@@ -1,0 +1,3 @@
+pub mod Taps
+pub mod Build
+pub mod laws

@@ -1,0 +1,4 @@
+pub mod Filling
+pub mod Tables
+pub mod Tails
+pub mod Examples

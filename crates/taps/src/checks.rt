@@ -1,0 +1,58 @@
+// The checks of a call, by the numbers and by the lists' lengths.
+ghost use mathlib.Core.Path.{_≡_};
+ghost use Rattle.refusal.specs.declared.Refusal.the-variants.{Shape, Polynomial};
+ghost use Rattle.refusal.specs.Refusals.{check, _then_};
+ghost use Rattle.taps.specs.Build.{memoryFits, sizesFit, tapsFit};
+use refusal::Refusal;
+use refusal::Reply;
+
+fn memory_fits(memory: usize) -> bool
+    ensures { λ r. ⌜ r ≡ memoryFits memory ⌝ }
+{
+    if memory < 1 {
+        return false;
+    }
+    memory <= 4
+}
+
+// Both lists have an entry for each branch. A memory out of range has none to measure by.
+fn sizes_fit(memory: usize, next: usize, words: usize) -> bool
+    ensures { λ r. ⌜ r ≡ sizesFit memory next words ⌝ }
+{
+    if !memory_fits(memory) {
+        return true;
+    }
+    let branches = 2 * trellis::word_count(memory);
+    if next != branches {
+        return false;
+    }
+    words == branches
+}
+
+// Memory and taps are in range, and the feedback number is odd.
+fn taps_fit(memory: usize, feedback: u32, parity: u32) -> bool
+    ensures { λ r. ⌜ r ≡ tapsFit memory feedback parity ⌝ }
+{
+    if !memory_fits(memory) {
+        return false;
+    }
+    let limit = 2 * trellis::word_count(memory);
+    if limit <= feedback as usize {
+        return false;
+    }
+    if limit <= parity as usize {
+        return false;
+    }
+    feedback % 2 == 1
+}
+
+// 2, then 15.
+pub fn taps_reply(memory: usize, feedback: u32, parity: u32, next: usize, words: usize) -> Reply
+    ensures { λ r. ⌜
+        r ≡ (check (sizesFit memory next words) Shape
+        then check (tapsFit memory feedback parity) Polynomial) ⌝ }
+{
+    let sizes = refusal::check(sizes_fit(memory, next, words), Refusal::Shape);
+    let taps = refusal::check(taps_fit(memory, feedback, parity), Refusal::Polynomial);
+    refusal::first_of(sizes, taps)
+}
