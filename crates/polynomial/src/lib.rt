@@ -9,7 +9,7 @@ ghost use Rattle.polynomial.specs.laws.Making.{Small};
 use refusal::Refusal;
 use refusal::Reply;
 
-// Entry i. The sum is formed in 64 bits: with K at most 4,096 and all four below K it is below 2^37, which 32 bits would not hold.
+// Entry i. The sum is formed in 64 bits: with K at most 4,096 and f1, f2 and i below K it is below 2^37, past 32 bits.
 fn entry_at(bits: usize, f1: usize, f2: usize, i: usize) -> u32
     requires { ⌜ Small (patternCallOf bits f1 f2) ⌝ }
     requires { ⌜ i < bits ⌝ }

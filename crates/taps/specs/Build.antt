@@ -8,7 +8,6 @@ use lib.ListN.{length}
 use Rattle.refusal.specs.declared.Refusal.the-variants.{Shape, Polynomial}
 use Rattle.refusal.specs.declared.Reply.{Reply}
 use Rattle.refusal.specs.Refusals.{check, _then_, after}
-use Rattle.trellis.specs.Table.{Table}
 use Rattle.taps.specs.Taps.{tapsTable}
 
 -- memory, feedback number and parity number
@@ -34,8 +33,8 @@ unfoldable pub memoryFits : ℕ → Bool
 memoryFits m = leb 1 m && leb m 4
 
 -- both lists are 2·2^m long; they are measured only where m is in range (not so: 2)
-unfoldable pub sizesFit : ℕ → ℕ → ℕ → Bool
-sizesFit m next words = not (memoryFits m) || (eqb next (2 * 2 ^ m) && eqb words (2 * 2 ^ m))
+unfoldable pub tapsListsFit : ℕ → ℕ → ℕ → Bool
+tapsListsFit m next words = not (memoryFits m) || (eqb next (2 * 2 ^ m) && eqb words (2 * 2 ^ m))
 
 -- m is in range, both tap numbers are below 2^(m+1), and the feedback number is odd (not so: 15)
 unfoldable pub tapsFit : ℕ → ℕ → ℕ → Bool
@@ -44,7 +43,7 @@ tapsFit m feedback parity = memoryFits m && (ltb feedback (2 ^ (m + 1)) && ltb p
 -- the first that applies, or done
 unfoldable pub tapsReply : TapsCall → TapsLent → Reply
 tapsReply c l =
-    check (sizesFit (c .memory) (length (l .next)) (length (l .words))) Shape
+    check (tapsListsFit (c .memory) (length (l .next)) (length (l .words))) Shape
     then check (tapsFit (c .memory) (c .feedback) (c .parity)) Polynomial
 
 -- the reply, and both lists as they are left

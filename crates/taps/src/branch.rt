@@ -1,10 +1,9 @@
 // One branch of a register with feedback, and all of them.
 ghost use mathlib.Core.Path.{_≡_};
-ghost use Prim.Native.Nat.{_*_, _≤_, _<_};
+ghost use Prim.Native.Nat.{_*_, _<_};
 ghost use lib.ListN.{length};
 ghost use Rattle.taps.specs.Taps.{oddUnder, nextEntry, wordEntry};
 ghost use Rattle.taps.specs.laws.Filling.{FewStates, BuiltBy};
-ghost use Rattle.lists.specs.Lists.{listed};
 
 // The state after a branch, and its word.
 struct Branch {
@@ -19,7 +18,7 @@ fn odd_under(taps: u32, register: u32) -> u32
     u32::count_ones(taps & register) % 2
 }
 
-// The branch at entry i: that of state i / 2 and input i % 2. The register is below 64, twice the number of branches.
+// The branch at entry i: that of state i / 2 and input i % 2. The register, its new bit and at most four older ones, is below 32.
 fn branch_at(states: u32, feedback: u32, parity: u32, i: u32) -> Branch
     requires { ⌜ FewStates states ⌝ }
     requires { ⌜ i < 2 * states ⌝ }

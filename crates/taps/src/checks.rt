@@ -2,7 +2,7 @@
 ghost use mathlib.Core.Path.{_≡_};
 ghost use Rattle.refusal.specs.declared.Refusal.the-variants.{Shape, Polynomial};
 ghost use Rattle.refusal.specs.Refusals.{check, _then_};
-ghost use Rattle.taps.specs.Build.{memoryFits, sizesFit, tapsFit};
+ghost use Rattle.taps.specs.Build.{memoryFits, tapsListsFit, tapsFit};
 use refusal::Refusal;
 use refusal::Reply;
 
@@ -16,8 +16,8 @@ fn memory_fits(memory: usize) -> bool
 }
 
 // Both lists have an entry for each branch. A memory out of range has none to measure by.
-fn sizes_fit(memory: usize, next: usize, words: usize) -> bool
-    ensures { λ r. ⌜ r ≡ sizesFit memory next words ⌝ }
+fn lists_fit(memory: usize, next: usize, words: usize) -> bool
+    ensures { λ r. ⌜ r ≡ tapsListsFit memory next words ⌝ }
 {
     if !memory_fits(memory) {
         return true;
@@ -49,10 +49,10 @@ fn taps_fit(memory: usize, feedback: u32, parity: u32) -> bool
 // 2, then 15.
 pub fn taps_reply(memory: usize, feedback: u32, parity: u32, next: usize, words: usize) -> Reply
     ensures { λ r. ⌜
-        r ≡ (check (sizesFit memory next words) Shape
+        r ≡ (check (tapsListsFit memory next words) Shape
         then check (tapsFit memory feedback parity) Polynomial) ⌝ }
 {
-    let sizes = refusal::check(sizes_fit(memory, next, words), Refusal::Shape);
+    let lists = refusal::check(lists_fit(memory, next, words), Refusal::Shape);
     let taps = refusal::check(taps_fit(memory, feedback, parity), Refusal::Polynomial);
-    refusal::first_of(sizes, taps)
+    refusal::first_of(lists, taps)
 }

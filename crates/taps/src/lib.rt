@@ -24,6 +24,7 @@ pub fn taps_table(
     if let Reply::Refused(_) = reply {
         return reply;
     }
+    // A state is a word of m bits, so there are as many.
     branch::fill(
         trellis::word_count(memory) as u32,
         feedback,

@@ -12,3 +12,4 @@ pub mod Sweeps
 pub mod Recursion
 pub mod Emptiness
 pub mod RightSigned
+pub mod Returning

@@ -1,14 +1,13 @@
--- Lists of bits: those that pass the coder's test, two one after the other, and one that is interleaved.
+-- Lists of bits: those that pass the coder's test, and one that is interleaved.
 -- Assumes nothing.
-use mathlib.Core.Path.{_≡_, refl, ap₂, _∙_}
+use mathlib.Core.Path.{_≡_, refl}
 use mathlib.Core.Bool.{true}
-use mathlib.Core.List.{List, _++_}
-use Prim.Native.Nat.{ℕ, _+_, _-_, _<_}
+use mathlib.Core.List.{List}
+use Prim.Native.Nat.{ℕ, _<_}
 use native.Mathlib.Decide.{decLt}
 use native.Mathlib.Omega.{arith}
 use lib.Dec.{ltb}
-use lib.ListN.{length, getD, length-append, List·getD-append, List·getD-eq-default}
-use lib.Seq.{getD-append-add}
+use lib.ListN.{length, getD, List·getD-eq-default}
 use borrow.Author.Tests.{ltb-true}
 use Rattle.lists.specs.Lists.{every}
 use Rattle.lists.specs.laws.Every.{every-at}
@@ -25,15 +24,6 @@ bits-are {n} xs e h = record { size = e; bit = bit }
 
 pub bits-tested : (xs : List ℕ) → every (λ b. ltb b 2) xs ≡ true → IsBits (length xs) xs
 bits-tested xs e = bits-are xs refl (λ k l. ltb-true (getD xs k 0) 2 (every-at (λ b. ltb b 2) 0 xs e k l))
-
-pub bits-append : {m n : ℕ} {xs ys : List ℕ} → IsBits m xs → IsBits n ys → IsBits (m + n) (xs ++ ys)
-bits-append {m} {n} {xs} {ys} v w = record { size = length-append xs ys ∙ ap₂ _+_ (v .size) (w .size); bit = bit }
-  where
-    bit : (k : ℕ) → getD (xs ++ ys) k 0 < 2
-    bit k = elim (decLt k (length xs)) [
-      | yes h ↦ rw (List·getD-append xs ys 0 k h) (v .bit k)
-      | no h ↦ let e : k ≡ length xs + (k - length xs) = omega arith in rw (e, getD-append-add xs ys (k - length xs) 0) (w .bit (k - length xs))
-    ]
 
 pub bits-interleaved : {k : ℕ} {p xs : List ℕ} → Permutes k p → IsBits k xs → IsBits k (interleave 0 p xs)
 bits-interleaved {k} {p} {xs} w bits =

@@ -14,12 +14,11 @@ use Rattle.trellis.specs.Table.{Table, nextState}
 use Rattle.trellis.specs.Path.{finish, terminating}
 use Rattle.trellis.specs.Best.{IsBits, IsTerminating, IsPath}
 use Rattle.trellis.specs.laws.Listing.{terminating-are}
+use Rattle.trellis.specs.laws.Returning.{finish-append, bits-append}
 use Rattle.frame.specs.Frame.{Frame, sections}
 use Rattle.coder.specs.Coder.{tailFrom, withTail}
 use Rattle.coder.specs.Tail.{Before, IsFirst}
 use Rattle.coder.specs.laws.Tails.{tail-suc}
-use Rattle.coder.specs.laws.Walking.{finish-append}
-use Rattle.coder.specs.laws.Bits.{bits-append}
 
 before-some : (p q : List ℕ) → length p ≡ 0 → Before p q → ⊥
 before-some [] q e b = b

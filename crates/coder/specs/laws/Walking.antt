@@ -14,11 +14,6 @@ use Rattle.coder.specs.laws.Sections.{wordsAlong}
 use Rattle.coder.specs.laws.Tails.{leads-on}
 
 module _ (t : Table) where
-  pub finish-append : (s : ℕ) (xs ys : List ℕ) → finish t s (xs ++ ys) ≡ finish t (finish t s xs) ys
-  unfolding finish
-  finish-append s [] ys = refl
-  finish-append s (x ∷ xs) ys = finish-append (nextState t s x) xs ys
-
   pub words-append : (s : ℕ) (xs ys : List ℕ) → wordsAlong t s (xs ++ ys) ≡ wordsAlong t s xs ++ wordsAlong t (finish t s xs) ys
   unfolding wordsAlong finish
   words-append s [] ys = refl

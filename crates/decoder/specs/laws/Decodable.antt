@@ -1,7 +1,7 @@
 -- What is known of a call of the frame decoder that its checks accept, and of one that has a path and no forced message position.
 -- Assumes nothing.
-use mathlib.Core.Path.{_≡_}
-use mathlib.Core.Bool.{true, false}
+use mathlib.Core.Path.{_≡_, sym, ap}
+use mathlib.Core.Bool.{true, false, not}
 use Prim.Native.Nat.{ℕ, _+_, _*_, _≤_, _<_}
 use lib.ListN.{length}
 use borrow.Author.Tests.{eqb-true, leb-true, not-true}
@@ -9,9 +9,10 @@ use Rattle.lists.specs.laws.Every.{none-upto-at}
 use Rattle.lists.specs.laws.Tests.{and-both}
 use Rattle.refusal.specs.declared.Refusal.the-variants.{Shape, Branch, Length, Lists, Value, Pattern, Mask, Iterations, Coder, NoPath, ForcedPosition}
 use Rattle.refusal.specs.declared.Reply.the-variants.{Done}
-use Rattle.refusal.specs.laws.Checks.{check-is-done, then-is-done, first-passed}
+use Rattle.refusal.specs.laws.Checks.{check-is-done, then-is-done, first-passed, passes-first}
 use Rattle.trellis.specs.Limits.{channelFits}
 use Rattle.trellis.specs.Outcome.{pathless, forced}
+use Rattle.trellis.specs.laws.Returning.{LeadsBack, back-has-path, back-none-forced}
 use Rattle.frame.specs.Frame.{Frame, sections, frameLength}
 use Rattle.frame.specs.laws.Checked.{Framed}
 use Rattle.decoder.specs.Decoder.{DecodeCall, DecodeLent, decodeListsFit, decodeChecked, decodeWalked, decodeReply}
@@ -77,6 +78,15 @@ walkable c e =
       some-path = not-true _ some-path;
       free = none-upto-at _ (c .frame .bits) (not-true _ (check-is-done _ ForcedPosition .0 after-paths));
     }
+
+-- a frame over a table that leads back in its tail sections has a path, and none of its message positions is forced
+pub walked-back : (c : DecodeCall) → LeadsBack (c .frame .table) (c .frame .tail) → decodeWalked c ≡ Done
+unfolding decodeWalked sections
+walked-back c w =
+    let f = c .frame in
+    sym
+    (passes-first NoPath (ap not (back-has-path (f .table) (f .tail) w (f .bits)))
+    (sym (check-is-done _ ForcedPosition .1 (ap not (back-none-forced (f .table) (f .tail) w (f .bits))))))
 
 -- a call that is done is both
 pub done-is : (c : DecodeCall) (l : DecodeLent) → decodeReply c l ≡ Done → Decodable c l × Walkable (c .frame)

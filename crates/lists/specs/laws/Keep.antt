@@ -96,6 +96,11 @@ module _ {A : Type 0} where
   isEmpty-exactly [] = (λ e. refl, λ e. refl)
   isEmpty-exactly (x ∷ xs) = (λ e. absurd (false≢true e), λ e. absurd (cons≢nil e))
 
+  pub not-empty : (xs : List A) (x : A) → List·Memᴰ x xs → isEmpty xs ≡ false
+  unfolding isEmpty
+  not-empty [] x m = absurd (List·Memᴰ·not-nil m)
+  not-empty (y ∷ xs) x m = refl
+
   -- where every entry passes one of two tests, a list is empty if neither test keeps anything
   pub isEmpty-by-tests :
       (f g : A → Bool) (xs : List A) → ((x : A) → List·Memᴰ x xs → (f x || g x) ≡ true) → isEmpty xs ≡ (isEmpty (keep f xs) && isEmpty (keep g xs))

@@ -27,10 +27,10 @@ mul-result-2 : tie.Need-mul-result-2
 mul-result-2 c = omega (arith, linear-small (second c) (index c))
 
 mul-result-3 : tie.Need-mul-result-3
-mul-result-3 c = omega (arith, square-small (second c) (index c))
+mul-result-3 c = omega (arith, linear-small (second c) (index c), square-small (second c) (index c))
 
 add-result : tie.Need-add-result
-add-result c = omega (arith, linear-small (first c) (index c), square-small (second c) (index c))
+add-result c = omega (arith, linear-small (first c) (index c), linear-small (second c) (index c), square-small (second c) (index c))
 
 rem-result : tie.Need-rem-result
 rem-result c = omega arith

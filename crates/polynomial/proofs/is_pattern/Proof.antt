@@ -1,6 +1,6 @@
 -- `is_pattern` meets its contract: what `permutes` says of the part of a list of its own that holds the entries.
 -- Assumes nothing.
-use mathlib.Core.Path.{_≡_, sym, _∙_}
+use mathlib.Core.Path.{sym, _∙_}
 use Prim.Native.Nat.{_≤_}
 use native.Mathlib.Omega.{arith}
 use lib.ListN.{length}

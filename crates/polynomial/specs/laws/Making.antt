@@ -3,12 +3,11 @@
 use mathlib.Core.Path.{_≡_, sym, ap, _∙_}
 use mathlib.Core.Bool.{true, false}
 use mathlib.Core.List.{List}
-use Prim.Native.Nat.{ℕ, _+_, _*_, _^_, _≤_, _<_}
+use Prim.Native.Nat.{ℕ, _*_, _^_, _≤_, _<_}
 use native.Mathlib.Nat.{mul-assoc, mul-le-mul, one-mul, pow-suc, pow-zero}
 use native.Mathlib.Omega.{arith}
 use lib.ListN.{length}
 use borrow.Author.Tests.{ltb-true, eqb-true}
-use Rattle.lists.specs.laws.Listed.{listed-length}
 use Rattle.lists.specs.laws.Tests.{and-both}
 use Rattle.refusal.specs.declared.Refusal.{Refusal}
 use Rattle.refusal.specs.declared.Refusal.the-variants.{Polynomial, Length, Lists, Pattern}
@@ -17,7 +16,7 @@ use Rattle.refusal.specs.Refusals.{check, after}
 use Rattle.refusal.specs.laws.Checks.{check-is-done, first-passed, done-then, refused-then}
 use Rattle.frame.specs.Interleaver.{permutes}
 use Rattle.frame.specs.laws.Checked.{sizes-small}
-use Rattle.polynomial.specs.Polynomial.{PatternCall, entryAt, entries, coefficientsFit, bitsFit, sizesReply, patternReply, patternResultOf, patternBuilt}
+use Rattle.polynomial.specs.Polynomial.{PatternCall, entries, coefficientsFit, bitsFit, sizesReply, patternReply, patternResultOf, patternBuilt}
 
 -- K and both coefficients within their limits
 pub record Small (c : PatternCall) : Type 0 where
@@ -38,11 +37,6 @@ squared a i = mul-assoc a i i ∙ ap (λ (x : ℕ). a * x) (sym (pow-suc i 1 ∙
   where
     itself : i ^ 1 ≡ i
     itself = pow-suc i 0 ∙ ap (λ (x : ℕ). x * i) (pow-zero i) ∙ one-mul i
-
-module _ (c : PatternCall) where
-  pub entries-long : length (entries c) ≡ c .bits
-  unfolding entries
-  entries-long = listed-length (entryAt c) (c .bits)
 
 -- ---- a call: refused, or built
 

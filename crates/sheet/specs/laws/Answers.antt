@@ -1,120 +1,67 @@
 -- What a sheet is answered with: a result, or 1, 6 or 8; and a result is a header and K lines.
 -- Assumes nothing.
 use mathlib.Core.Path.{_≡_, refl, sym, ap, ap₂, _∙_}
-use mathlib.Core.Bool.{Bool, true, false, cond, not, _||_, false≢true}
-use mathlib.Core.List.{List, [], _∷_, _++_, map, List·Memᴰ, List·Memᴰ·not-nil}
+use mathlib.Core.Bool.{Bool, true, false, cond}
+use mathlib.Core.List.{List, [], _∷_, _++_, map}
 use mathlib.Core.Option.{Option, none, some, Option·elim}
-use Prim.Native.Nat.{ℕ, zero, suc, _+_, _-_, _*_, _/_, _%_, _≤_, _<_}
+use Prim.Native.Nat.{ℕ, zero, suc, _+_, _*_, _/_, _%_, _<_}
 use native.Mathlib.Omega.{arith}
 use lib.Dec.{eqb, ltb}
 use lib.IntN.{ℤ, pos, negsuc}
-use lib.ListN.{length, getD, replicate, length-append, length-replicate}
+use lib.ListN.{length, getD, length-append}
 use borrow.Author.Tests.{ne-eqb}
-use Rattle.lists.specs.Lists.{listed, joined, isEmpty, count, any, upto}
+use Rattle.lists.specs.Lists.{listed, joined, every, count}
 use Rattle.lists.specs.laws.Counts.{count-append}
-use Rattle.lists.specs.laws.Every.{any-upto-at}
 use Rattle.lists.specs.laws.Listed.{listed-length, listed-at, joined-length}
 use Rattle.text.specs.Text.{bytes}
 use Rattle.text.specs.Decimal.{digitsIn, digits, decimal}
 use Rattle.refusal.specs.declared.Refusal.{Refusal}
-use Rattle.refusal.specs.declared.Refusal.the-variants.{Text, Value, Pattern, NoPath, ForcedPosition}
+use Rattle.refusal.specs.declared.Refusal.the-variants.{Text, Value, Pattern}
 use Rattle.refusal.specs.declared.Reply.{Reply}
 use Rattle.refusal.specs.declared.Reply.the-variants.{Done, Refused}
 use Rattle.refusal.specs.Refusals.{told, numberOf, check, _then_}
-use Rattle.refusal.specs.laws.Checks.{refused-is-not-done, check-is-done, passes-first, done-after}
+use Rattle.refusal.specs.laws.Checks.{refused-is-not-done, done-after}
 use Rattle.refusal.specs.laws.Kept.{after-done}
-use Rattle.trellis.specs.Table.{nextState}
-use Rattle.trellis.specs.Path.{TrellisPath, finish, class}
-use Rattle.trellis.specs.Best.{InClass}
+use Rattle.trellis.specs.Table.{nextState, shaped, branched}
+use Rattle.trellis.specs.Path.{finish}
+use Rattle.trellis.specs.Best.{IsBits, IsTerminating}
 use Rattle.trellis.specs.Limits.{channelFits}
-use Rattle.trellis.specs.Outcome.{forced}
-use Rattle.trellis.specs.laws.Emptiness.{unforced-has-path}
-use Rattle.trellis.specs.laws.Listing.{class-is}
-use Rattle.frame.specs.Frame.{sections, flags, spread}
+use Rattle.trellis.specs.laws.Branches.{next-below}
+use Rattle.trellis.specs.laws.Returning.{LeadsBack}
+use Rattle.frame.specs.Frame.{flags, spread}
 use Rattle.frame.specs.Interleaver.{permutes, place, deinterleave}
-use Rattle.house.specs.House.{house, houseNext}
+use Rattle.house.specs.House.{house, houseNext, houseParity}
 use Rattle.decoder.specs.Decoder.{DecodeCall, DecodeLent, decided, lastPass, decodeChecked, decodeWalked, decodeReply, decodeSettled, decode}
+use Rattle.decoder.specs.laws.Decodable.{walked-back}
 use Rattle.sheet.specs.Sheet.{messageBits, messageAt, valuesOf, firstFault, textReply, lentFor, resultLine, resultText, callOf as sheetCall}
 use Rattle.sheet.specs.laws.Decoding.{blankFor, patternOf, call-is, lent-is, house-checked}
 use Rattle.sheet.specs.laws.Fitting.{fitting}
 
--- ---- the house code has a path with either bit at every message position
+-- ---- the house code leads back in two sections
 
--- 1 at k and at the two positions after it
-abbrev bump : ℕ → ℕ → List ℕ
-bump k m = replicate k 0 ++ (1 ∷ 1 ∷ 1 ∷ replicate m 0)
+-- the two inputs that lead back from state s
+house-way : ℕ → List ℕ
+house-way zero = 0 ∷ 0 ∷ []
+house-way (suc zero) = 1 ∷ 1 ∷ []
+house-way (suc (suc zero)) = 1 ∷ 0 ∷ []
+house-way (suc (suc (suc s))) = 0 ∷ 1 ∷ []
 
-finish-zeros : (k : ℕ) (q : List ℕ) → finish house 0 (replicate k 0 ++ q) ≡ finish house 0 q
-unfolding finish nextState house listed houseNext
-finish-zeros zero q = refl
-finish-zeros (suc k) q = finish-zeros k q
+two-bits : (a b : ℕ) → a < 2 → b < 2 → IsBits 2 (a ∷ b ∷ [])
+two-bits a b h k = record { size = refl; bit = elim [ zero ↦ h | suc zero ↦ k | suc (suc i) ↦ omega arith ] }
 
-zeros-end : (k : ℕ) → finish house 0 (replicate k 0) ≡ 0
-unfolding finish nextState house listed houseNext
-zeros-end zero = refl
-zeros-end (suc k) = zeros-end k
+house-leads : (s : ℕ) → s < 4 → IsTerminating house s 2 (house-way s)
+unfolding house-way finish nextState house listed houseNext
+house-leads zero h = record { bits = two-bits 0 0 (omega arith) (omega arith); ends = refl }
+house-leads (suc zero) h = record { bits = two-bits 1 1 (omega arith) (omega arith); ends = refl }
+house-leads (suc (suc zero)) h = record { bits = two-bits 1 0 (omega arith) (omega arith); ends = refl }
+house-leads (suc (suc (suc zero))) h = record { bits = two-bits 0 1 (omega arith) (omega arith); ends = refl }
+house-leads (suc (suc (suc (suc s)))) h = absurd (omega arith)
 
-bump-ends : (k m : ℕ) → finish house 0 (bump k m) ≡ 0
-unfolding finish nextState house listed houseNext
-bump-ends k m = finish-zeros k (1 ∷ 1 ∷ 1 ∷ replicate m 0) ∙ zeros-end m
-
-zeros-bit : (n i : ℕ) → getD (replicate n 0) i 0 < 2
-zeros-bit zero i = omega arith
-zeros-bit (suc n) zero = omega arith
-zeros-bit (suc n) (suc i) = zeros-bit n i
-
-bump-bit : (k m i : ℕ) → getD (bump k m) i 0 < 2
-bump-bit zero m zero = omega arith
-bump-bit zero m (suc zero) = omega arith
-bump-bit zero m (suc (suc zero)) = omega arith
-bump-bit zero m (suc (suc (suc i))) = zeros-bit m i
-bump-bit (suc k) m zero = omega arith
-bump-bit (suc k) m (suc i) = bump-bit k m i
-
-zeros-at : (n i : ℕ) → _≡_ {A = ℕ} (getD (replicate n 0) i 0) 0
-zeros-at zero i = refl
-zeros-at (suc n) zero = refl
-zeros-at (suc n) (suc i) = zeros-at n i
-
-bump-at : (k m : ℕ) → getD (bump k m) k 0 ≡ 1
-bump-at zero m = refl
-bump-at (suc k) m = bump-at k m
-
-bump-length : (k m : ℕ) → length (bump k m) ≡ k + 3 + m
-bump-length k m = omega (arith, length-append {A = ℕ} (replicate k 0) (1 ∷ 1 ∷ 1 ∷ replicate m 0), length-replicate {A = ℕ} k 0, length-replicate {A = ℕ} m 0)
-
-not-empty : {A : Type 0} (xs : List A) (x : A) → List·Memᴰ x xs → isEmpty xs ≡ false
-unfolding isEmpty
-not-empty [] x m = absurd (List·Memᴰ·not-nil m)
-not-empty (y ∷ xs) x m = refl
-
-pub house-free : (n k : ℕ) → k + 3 ≤ n → forced house n k ≡ false
-unfolding forced
-house-free n k h =
-    let zeros : TrellisPath = record { start = 0; bits = replicate n 0 } in
-    let one : TrellisPath = record { start = 0; bits = bump k (n - (k + 3)) } in
-    let first : InClass house n k 0 zeros = record {
-      path = record { start = refl; bits = record { size = length-replicate n 0; bit = zeros-bit n }; ends = zeros-end n };
-      bit = zeros-at n k;
-    } in
-    let second : InClass house n k 1 one = record {
-      path = record {
-        start = refl;
-        bits = record { size = bump-length k (n - (k + 3)) ∙ omega arith; bit = bump-bit k (n - (k + 3)) };
-        ends = bump-ends k (n - (k + 3));
-      };
-      bit = bump-at k (n - (k + 3));
-    } in
-    ap₂ _||_ (not-empty (class house n k 0) zeros (class-is house n k 0 zeros .1 first)) (not-empty (class house n k 1) one (class-is house n k 1 one .1 second))
+house-back : LeadsBack house 2
+unfolding house listed houseNext houseParity shaped branched every
+house-back = record { some-state = omega arith; stays = λ s b state bit. next-below house s b state bit refl refl; way = house-way; leads = house-leads }
 
 -- ---- so a sheet whose text fits is refused by 6 or by 8, or is decoded
-
-none-forced : (n m : ℕ) → m + 2 ≤ n → any (forced house n) (upto m) ≡ false
-none-forced n m h = go (any (forced house n) (upto m)) refl
-  where
-    go : (t : Bool) → any (forced house n) (upto m) ≡ t → t ≡ false
-    go true e = let (k, below, is-forced) = any-upto-at (forced house n) m e in absurd (false≢true (sym (house-free n k (omega arith)) ∙ is-forced))
-    go false e = refl
 
 values-long : (sheet : List ℕ) → length (valuesOf sheet) ≡ 3 * messageBits sheet + 8
 unfolding valuesOf joined
@@ -139,13 +86,8 @@ module _ (sheet : List ℕ) (fits : textReply sheet ≡ Done) where
       ∙ ap tests pattern-long
 
   sheet-walked : decodeWalked (sheetCall sheet) ≡ Done
-  unfolding decodeWalked sheetCall sections
-  sheet-walked =
-      let some-bits = fitting sheet fits .some-bits in
-      let free = house-free (messageBits sheet + 2) 0 (omega arith) in
-      sym
-      (passes-first NoPath (ap not (unforced-has-path house (messageBits sheet + 2) 0 free))
-      (sym (check-is-done _ ForcedPosition .1 (ap not (none-forced (messageBits sheet + 2) (messageBits sheet) (omega arith))))))
+  unfolding sheetCall
+  sheet-walked = walked-back (sheetCall sheet) house-back
 
   pub sheet-reply : decode (sheetCall sheet) (lentFor sheet) .reply ≡ tests (messageBits sheet)
   unfolding decode decodeSettled decodeReply

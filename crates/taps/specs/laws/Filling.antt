@@ -1,6 +1,6 @@
 -- What the builder of a table relies on and what it leaves: as many states as its memory says, and both lists filled.
 -- Assumes nothing.
-use mathlib.Core.Path.{_≡_, refl, sym, ap, ap₂, _∙_}
+use mathlib.Core.Path.{_≡_, sym}
 use mathlib.Core.Bool.{true}
 use mathlib.Core.List.{List}
 use Prim.Native.Nat.{ℕ, _+_, _*_, _^_, _≤_, _<_, min}
@@ -8,7 +8,7 @@ use native.Mathlib.Nat.{pow-succ'}
 use native.Mathlib.Numerals.{add-one}
 use native.Mathlib.Omega.{arith}
 use lib.Pow.{pow-pos, pow-mono}
-use lib.Dec.{eqb, leb}
+use lib.Dec.{leb}
 use lib.ListN.{length}
 use borrow.Author.Tests.{leb-true, eqb-true}
 use Rattle.lists.specs.Lists.{listed}
@@ -19,7 +19,7 @@ use Rattle.refusal.specs.declared.Reply.the-variants.{Done, Refused}
 use Rattle.refusal.specs.Refusals.{after}
 use Rattle.refusal.specs.laws.Checks.{check-is-done, first-passed}
 use Rattle.taps.specs.Taps.{nextEntry, wordEntry, tapsTable}
-use Rattle.taps.specs.Build.{TapsCall, TapsLent, tapsCallOf, tapsLentOf, tapsResultOf, memoryFits, sizesFit, tapsFit, tapsReply, tapsBuilt}
+use Rattle.taps.specs.Build.{TapsCall, TapsLent, tapsResultOf, memoryFits, tapsListsFit, tapsFit, tapsReply, tapsBuilt}
 
 -- a number of states within the limits
 pub record FewStates (states : ℕ) : Type 0 where
@@ -58,11 +58,11 @@ module _ (c : TapsCall) (l : TapsLent) where
     pub words-long : length (l .words) ≡ 2 * 2 ^ c .memory
 
   pub buildable : tapsReply c l ≡ Done → Buildable
-  unfolding tapsReply sizesFit tapsFit
+  unfolding tapsReply tapsListsFit tapsFit
   buildable e =
-      let (sizes, after-sizes) = first-passed _ Shape _ e in
-      let memory = and-left (memoryFits (c .memory)) _ (check-is-done _ Polynomial .0 after-sizes) in
-      let (next, words) = and-both _ _ (rw memory at sizes) in
+      let (lists, after-lists) = first-passed _ Shape _ e in
+      let memory = and-left (memoryFits (c .memory)) _ (check-is-done _ Polynomial .0 after-lists) in
+      let (next, words) = and-both _ _ (rw memory at lists) in
       record { memory = memory; next-long = eqb-true _ _ next; words-long = eqb-true _ _ words }
 
   pub built-refused : (r : Refusal) → tapsReply c l ≡ Refused r → tapsResultOf (Refused r) (l .next) (l .words) ≡ tapsBuilt c l

@@ -1,19 +1,18 @@
 -- Every table from taps, for every memory at once: its branches, and that it is shaped, branched and systematic.
 -- Assumes nothing.
-use mathlib.Core.Path.{_≡_, refl, sym, ap₂, _∙_}
+use mathlib.Core.Path.{_≡_, refl, ap₂, _∙_}
 use mathlib.Core.Bool.{true}
-use Prim.Native.Nat.{ℕ, _+_, _*_, _/_, _%_, _^_, _≤_, _<_}
+use Prim.Native.Nat.{ℕ, _+_, _*_, _/_, _%_, _^_, _<_}
 use native.Mathlib.Nat.{mod-lt}
 use native.Mathlib.Omega.{arith}
-use lib.Dec.{eqb, ltb}
-use lib.ListN.{length, getD}
+use lib.ListN.{length}
 use lib.Pow.{pow-pos}
 use borrow.Author.Tests.{eq-eqb, le-leb, lt-ltb}
 use Rattle.lists.specs.laws.Every.{at-every, at-every-upto}
 use Rattle.lists.specs.laws.Listed.{listed-length, listed-at}
 use Rattle.lists.specs.laws.Tests.{and-true}
 use Rattle.trellis.specs.Table.{Table, nextState, word, output, systematic, shaped, branched}
-use Rattle.taps.specs.Taps.{oddUnder, newBit, registerOf, tapsNext, tapsParity, nextEntry, wordEntry, tapsTable}
+use Rattle.taps.specs.Taps.{oddUnder, registerOf, tapsNext, tapsParity, nextEntry, wordEntry, tapsTable}
 use Rattle.taps.specs.Build.{memoryFits}
 use Rattle.taps.specs.laws.Filling.{few-states}
 

@@ -6,7 +6,6 @@ use Prim.Native.Nat.{ℕ, zero, suc, _+_, _*_, _/_, _%_, _^_, _<_}
 use native.Mathlib.Nat.{suc-inj, suc-ne-zero, zero-div, mod-lt, mod-eq-of-lt}
 use native.Mathlib.Numerals.{add-one}
 use native.Mathlib.Omega.{arith}
-use lib.ListN.{length, getD}
 use lib.Pow.{pow-pos, shr-shr, mod-pow-add, field, mod-mod-pow}
 use Rattle.trellis.specs.Table.{Table, nextState}
 use Rattle.trellis.specs.Path.{finish}

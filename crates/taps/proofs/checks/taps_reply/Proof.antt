@@ -4,8 +4,8 @@ use borrow.Author.Needs.{needs}
 use Rattle.taps.proofs.checks.taps_reply.Statement.{statement}
 use Rattle.taps.proofs.checks.taps_reply.Tie as tie
 
-sizes-fit-requires : tie.Need-sizes-fit-requires
-sizes-fit-requires c κs = search needs
+lists-fit-requires : tie.Need-lists-fit-requires
+lists-fit-requires c κs = search needs
 
 check-requires : tie.Need-check-requires
 check-requires c κs = search needs
@@ -22,20 +22,20 @@ first-of-requires c κs = search needs
 returns : tie.Need-returns
 returns c =
     let taps = c .before in
-    let sizes = taps .before .before in
+    let lists = taps .before .before in
     rw (
       c .first-of .ensures,
       taps .check2 .ensures,
       taps .before .taps-fit .ensures,
-      sizes .check .ensures,
-      sizes .before .sizes-fit .ensures,
+      lists .check .ensures,
+      lists .before .lists-fit .ensures,
     )
 
 pub taps-reply-spec : {M : Type 1} → statement M
 taps-reply-spec =
     tie.close
     (tie.spec
-    sizes-fit-requires
+    lists-fit-requires
     check-requires
     taps-fit-requires
     check-requires-2
