@@ -1,8 +1,8 @@
 -- `entry_at` meets its contract: no product passes the same power of 4,095, so the sum fits 64 bits.
 -- Assumes nothing.
 use mathlib.Core.Path.{ap}
-use Prim.Native.Nat.{ℕ, _+_, _*_, _%_, _<_}
-use native.Mathlib.Nat.{mod-lt}
+use Prim.Native.Nat.{ℕ, _+_, _*_, _%_, _^_, _≤_, _<_}
+use native.Mathlib.Nat.{lt-of-lt-of-le, mod-lt}
 use native.Mathlib.Omega.{arith}
 use Rattle.polynomial.specs.Polynomial.{entryAt}
 use Rattle.polynomial.specs.laws.Making.{linear-small, square-small, squared}
@@ -38,7 +38,8 @@ rem-result c = omega arith
 cast-result : tie.Need-cast-result
 cast-result c =
     let some : 0 < c .args .bits = omega arith in
-    omega (arith, mod-lt (c .args .f1 * c .args .i + c .args .f2 * c .args .i * c .args .i) some)
+    let few : c .args .bits ≤ 2 ^ 32 = omega arith in
+    record { fits = lt-of-lt-of-le (mod-lt _ some) few }
 
 returns : tie.Need-returns
 unfolding entryAt
