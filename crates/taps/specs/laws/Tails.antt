@@ -26,7 +26,7 @@ module _ (m feedback parity : ℕ) where
 
   module _ (s b : ℕ) (state : s < 2 ^ m) (bit : b < 2) where
     -- a branch leads to a state
-    pub next-below : nextState table s b < 2 ^ m
+    next-below : nextState table s b < 2 ^ m
     unfolding tapsNext
     next-below = rw (next-of m feedback parity s b state bit) (mod-lt _ (pow-pos m))
 
@@ -57,7 +57,7 @@ module _ (m feedback parity : ℕ) where
       ∙ field register j 1
       ∙ ap (λ (x : ℕ). x % 2 ^ j) up
 
-  -- so the first new bit of a way back is 0, and the first input with it is given
+  -- so the first new bit of a way back is 0, which settles its first input
   first-new : (j n s b : ℕ) (p : List ℕ) → j + 1 + n ≡ m → s < 2 ^ m → IsTerminating table s (suc n) (b ∷ p) → newBit feedback s b ≡ 0
   unfolding finish
   first-new j n s b p e state back =
@@ -92,6 +92,7 @@ module _ (m feedback parity : ℕ) where
 
   -- ---- at least one: the inputs whose new bits are all 0
 
+  -- n inputs from state s, each the feedback of its state
   pub tailInputs : ℕ → ℕ → List ℕ
   tailInputs zero s = []
   tailInputs (suc n) s = oddUnder feedback (2 * s) ∷ tailInputs n (nextState table s (oddUnder feedback (2 * s)))
