@@ -40,6 +40,7 @@ int main(void)
     uint32_t pattern[K];
     int16_t received[FRAME];
     int32_t margins[K], extrinsics[K], work[(K + T + 1) * STATES];
+    uint64_t index;
     size_t i;
     int wrong = 0;
 
@@ -55,7 +56,8 @@ int main(void)
     for (i = 0; i < FRAME; i += 9) received[i] = (int16_t)(-received[i] / 2);
 
     if (refused("turbo_decode", turbo_decode(STATES, 2, next, LEN(next), words, LEN(words), K, T, pattern, LEN(pattern), masks, LEN(masks), received,
-                                             LEN(received), 8, bits, LEN(bits), margins, LEN(margins), extrinsics, LEN(extrinsics), work, LEN(work))))
+                                             LEN(received), 8, bits, LEN(bits), margins, LEN(margins), extrinsics, LEN(extrinsics), work, LEN(work),
+                                             &index)))
         return 1;
 
     printf("at bit margin extrinsic\n");

@@ -9,6 +9,7 @@
  *   - The pointer is not NULL and is aligned for its entries, also where the list is empty.
  *   - It has at least as many entries as told. A wrong number is refused only where it is not the number asked for below.
  *   - A list that is written overlaps no other list of the call.
+ * `index`, the last argument of both decoders, points to one number and has no length. It is not NULL, is aligned, and overlaps no list.
  * The calls keep nothing and use no static data, so several threads may call at once, each with lists of its own.
  *
  * Table. S states (1..16) and n outputs (1..4). The branch of state s and input bit b stands at 2*s + b of `next` (the next state, below S) and
@@ -27,8 +28,10 @@ extern "C" {
 #endif
 
 /*
- * The number that a call returns; turbo_sheet returns a length instead. Of the numbers that apply, the first in the order 2, 15, 3, 4, .. 14 is
- * returned, which is the order below; each call tests only what it is lent.
+ * The number that a call returns; turbo_sheet returns a length instead. Of the numbers that apply, the first in the order 2, 15, 3, 4, 5, 6, 16,
+ * 7, .. 14 is returned, which is the order below; each call tests only what it is lent.
+ *
+ * TURBO_VALUE and TURBO_APRIORI say which value: `index` is that of the first one out of range in its list, counted from 0.
  *
  * After every refusal the result lists are as they were. The working list is all zeros after TURBO_DONE, TURBO_NO_PATH and
  * TURBO_FORCED_POSITION, and as it was after every other number.
@@ -41,7 +44,8 @@ enum turbo_reply {
     TURBO_BRANCH = 3,           /* a next state not below the number of states, or a word not below 2^outputs */
     TURBO_LENGTH = 4,           /* sections outside 1..4096; bits 0, tail above 4, or bits + tail above 4096; or a polynomial's bits above 4096 */
     TURBO_LISTS = 5,            /* another list without its exact number of entries; the frame's own only where TURBO_MASK does not apply */
-    TURBO_VALUE = 6,            /* a channel value outside -1023..1023, or an a-priori value outside -8191..8191 */
+    TURBO_VALUE = 6,            /* a channel value outside -1023..1023; told with its index, on a sheet with its line */
+    TURBO_APRIORI = 16,         /* stands after 6: an a-priori value outside -8191..8191; told with its index; lone decoder only */
     TURBO_BIT = 7,              /* a message bit other than 0 or 1 */
     TURBO_PATTERN = 8,          /* the pattern has not each of 0..bits-1 exactly once */
     TURBO_MASK = 9,             /* no mask, more than 16, or one above 7 */
@@ -63,8 +67,9 @@ enum turbo_reply {
  *   extrinsics      N entries written: margin minus a-priori, and minus the channel value of output 1 if the table is systematic; 0 at a
  *                   forced position
  *   work            (N+1)*S entries, for the decoder's own use; zero afterwards
+ *   index           always written: for 6 the index in `channel` of its first value out of range, for 16 the same in `apriori`; else 0
  *
- * Returns 0, 2, 3, 4, 5, 6 or 12.
+ * Returns 0, 2, 3, 4, 5, 6, 16 or 12.
  */
 uint32_t turbo_lone_decode(size_t states, size_t outputs,
                            const uint8_t *next, size_t next_len,
@@ -75,7 +80,8 @@ uint32_t turbo_lone_decode(size_t states, size_t outputs,
                            uint8_t *marks, size_t marks_len,
                            int32_t *margins, size_t margins_len,
                            int32_t *extrinsics, size_t extrinsics_len,
-                           int32_t *work, size_t work_len);
+                           int32_t *work, size_t work_len,
+                           uint64_t *index);
 
 /*
  * A frame, for the two calls below.
@@ -117,6 +123,7 @@ uint32_t turbo_encode(size_t states, size_t outputs,
  *   margins         K entries written, from the last pass, in message order
  *   extrinsics      the same; not limited
  *   work            (K+T+1)*S entries, for the decoder's own use; zero afterwards
+ *   index           always written: for 6 the index in `received` of its first value out of range; else 0
  *
  * Returns 0, 2, 3, 4, 5, 6, 8, 9, 10, 11, 12 or 13. Whether it is 12 or 13 depends on the table, K and T alone, never on the values.
  */
@@ -131,7 +138,8 @@ uint32_t turbo_decode(size_t states, size_t outputs,
                       uint8_t *decided, size_t decided_len,
                       int32_t *margins, size_t margins_len,
                       int32_t *extrinsics, size_t extrinsics_len,
-                      int32_t *work, size_t work_len);
+                      int32_t *work, size_t work_len,
+                      uint64_t *index);
 
 /*
  * The sheet: a frame of the house code as text, with two tail sections, decoded in eight iterations.
@@ -139,9 +147,9 @@ uint32_t turbo_decode(size_t states, size_t outputs,
  *   sheet           any bytes. A sheet has at most 16384: the line `at to sys par par2 sys2`, K rows, 1..512, and two tail rows, each ended by
  *                   a line feed
  *   answer          written from its start: `at bit margin extrinsic` and a line for each message position; or `refused line` and, on the next
- *                   line, the number (1, 6 or 8), a space and the first faulty line, the header being 1. It is 0 for 6 and 8, and for a sheet
- *                   too long or with too few or too many rows. Each line is ended by a line feed, and no zero byte follows. Entries after the
- *                   answer are as they were
+ *                   line, the number (1, 6 or 8), a space and a line of the sheet, the header being 1: for 1 the first faulty line, for 6 that
+ *                   of the first value out of range, row by row. It is 0 for 8, and for a sheet too long or with too few or too many rows.
+ *                   Each line is ended by a line feed, and no zero byte follows. Entries after the answer are as they were
  *
  * Returns the answer's length, or 0 where `answer` has no room for it; the list is then as it was. A list of TURBO_ANSWER_ROOM entries
  * always has room.

@@ -106,6 +106,35 @@ fn print_values() {
     safe::end(with_values(0, -8192));
 }
 
+// Prints number and index for the house code told of so many sections, with lists for four.
+fn put_place(sections: usize, channel: &[i16; 8], apriori: &[i16; 4]) {
+    let next = turbo::house_next();
+    let words = turbo::house_words();
+    let a = lone::called(4, 2, sections, &next, &words, channel, apriori, 4, 20);
+    safe::put(a.number);
+    safe::end(a.place);
+}
+
+// Beside a bad value stand others that are just within their limits, or 0.
+fn print_places() {
+    let channel: [i16; 8] = [1023, -1023, 1023, -1023, 1023, -1023, 1023, -1023];
+    let apriori: [i16; 4] = [8191, -8191, 8191, -8191];
+    io::write_all(
+        1,
+        b"number and index of the first bad value: none; channel 0; 7; 3 and 6; a-priori 0; 1; 3; 2 and 3; channel 5, a-priori 0; the same in 3 sections\n",
+    );
+    put_place(4, &channel, &apriori);
+    put_place(4, &[-1024, 0, 0, 0, 0, 0, 0, 0], &apriori);
+    put_place(4, &[0, 0, 0, 0, 0, 0, 0, 1024], &apriori);
+    put_place(4, &[0, 0, 1023, -32768, 0, 0, 1024, 0], &apriori);
+    put_place(4, &channel, &[-8192, 0, 0, 0]);
+    put_place(4, &channel, &[8191, 8192, -8191, 0]);
+    put_place(4, &channel, &[0, 0, 0, 8192]);
+    put_place(4, &channel, &[0, 0, -8192, 32767]);
+    put_place(4, &[0, 0, 0, 0, 0, 1024, 0, 0], &[8192, 0, 0, 0]);
+    put_place(3, &[0, 0, 0, 0, 0, 1024, 0, 0], &[8192, 0, 0, 0]);
+}
+
 fn print_sizes() {
     io::write_all(1, b"sections 4096, 4097 and 0\n");
     safe::put(with_sections(4096));
@@ -118,6 +147,7 @@ fn print_sizes() {
 
 pub fn run() {
     print_values();
+    print_places();
     print_sizes();
     io::write_all(
         1,

@@ -5,7 +5,7 @@ use bench_tools::safe;
 use bench_tools::tally;
 use bench_tools::tally::Tally;
 
-// What is counted: calls that agree, those of them with no path, free and forced positions, and what does not agree.
+// What is counted: calls that agree, those of them with no path, free and forced positions, what does not agree, and calls refused by 6 and by 16.
 pub const CALLS: usize = 0;
 
 pub const PATHLESS: usize = 1;
@@ -16,10 +16,24 @@ pub const FORCED: usize = 3;
 
 pub const WRONG: usize = 4;
 
-// What a call leaves: the number of its reply, whether the working list is all zeros, and the result lists.
+pub const CHANNEL: usize = 5;
+
+pub const APRIORI: usize = 6;
+
+// What stands in every entry of the result lists before a call.
+pub const OLD_MARK: u8 = 9;
+
+pub const OLD_MARGIN: i32 = 99;
+
+pub const OLD_EXTRINSIC: i32 = 98;
+
+// What a call leaves: the number of its reply and the index with it, whether the working list is all zeros, whether it is as before, and the result
+// lists.
 pub struct Answer {
     pub number: usize,
+    pub place: usize,
     pub clear: bool,
+    pub kept: bool,
     pub marks: [u8; 12],
     pub margins: [i32; 12],
     pub extrinsics: [i32; 12],
@@ -85,6 +99,29 @@ fn positions(
     out
 }
 
+// Whether the result lists are as before.
+fn unwritten(a: Answer) -> bool {
+    let mut k: usize = 0;
+    while k < 12 {
+        if !agrees(a, k, OLD_MARK, OLD_MARGIN, OLD_EXTRINSIC) {
+            return false;
+        }
+        k += 1;
+    }
+    true
+}
+
+// One call that a value has to be refused for, by this number and with this index.
+pub fn refused(t: Tally, a: Answer, number: usize, place: usize) -> Tally {
+    if a.number != number || a.place != place {
+        return tally::one_more(t, WRONG);
+    }
+    if !a.kept || !unwritten(a) {
+        return tally::one_more(t, WRONG);
+    }
+    tally::one_more(t, if number == 6 { CHANNEL } else { APRIORI })
+}
+
 // One call checked against the listing.
 pub fn checked(
     t: Tally,
@@ -97,7 +134,7 @@ pub fn checked(
     apriori: &[i16],
 ) -> Tally {
     let expected: usize = if best.any { 0 } else { 12 };
-    if !a.clear || a.number != expected {
+    if !a.clear || a.number != expected || a.place != 0 {
         return tally::one_more(t, WRONG);
     }
     let more = tally::one_more(t, CALLS);

@@ -1,6 +1,7 @@
 // A call of the frame decoder: its sizes, and what it leaves.
 use bench_tools::reply;
 use bench_tools::safe;
+use refusal::Reply;
 
 // Sizes as they are told, and the lengths of the lists that are written.
 pub struct Sizes {
@@ -15,9 +16,10 @@ pub struct Sizes {
     pub work_len: usize,
 }
 
-// The number of the reply, how many entries of the working list are 0 and how many are as before, and the result lists.
+// The number of the reply and the index with it, how many entries of the working list are 0 and how many are as before, and the result lists.
 pub struct Answer {
     pub number: usize,
+    pub place: usize,
     pub zeros: usize,
     pub kept: usize,
     pub bits: [u8; 4096],
@@ -65,7 +67,7 @@ fn count(n: usize, xs: &[i32; 16400], x: i32) -> usize {
 
 // What a call leaves, with a working list of n entries.
 fn answered(
-    number: usize,
+    reply: Reply,
     n: usize,
     work: &[i32; 16400],
     bits: [u8; 4096],
@@ -73,7 +75,8 @@ fn answered(
     extrinsics: [i32; 4096],
 ) -> Answer {
     Answer {
-        number: number,
+        number: reply::number(reply),
+        place: reply::place(reply),
         zeros: count(n, work, 0),
         kept: count(n, work, OLD_WORK),
         bits: bits,
@@ -115,5 +118,5 @@ pub fn called(
         &mut extrinsics[..e],
         &mut work[..w],
     );
-    answered(reply::number(r), w, &work, bits, margins, extrinsics)
+    answered(r, w, &work, bits, margins, extrinsics)
 }

@@ -70,17 +70,29 @@ pub fn sizes(p: Plan) -> Sizes {
     with_fault(with_fault(s, p.first), p.second)
 }
 
-// The values of a drawn call, a list of `len`: small in a third of the calls, so that metrics are often equal; 1,024 or its opposite is a fault.
+// Where the second bad value sits: in half of the calls where the first does, so that there is one alone.
+fn second(seed: u32, first: usize, len: usize) -> usize {
+    if draw::below(seed, 2) == 0 {
+        return first;
+    }
+    draw::below(draw::later(seed), len)
+}
+
+// The values of a drawn call, a list of `len`: small in a third of the calls, so that metrics are often equal; 1,024 or its opposite, at one drawn index
+// or at two, is a fault.
 pub fn values(p: Plan, len: usize) -> [i16; 48] {
     let seed = draw::other(p.seed, 7);
     let limit: u16 = if draw::below(seed, 3) == 0 { 2 } else { 1023 };
     let at = draw::below(draw::later(seed), len) % 48;
+    let other = second(draw::other(seed, 1), at, len) % 48;
     let mut xs = draw::values(seed, limit);
     if calls::has(p, LOUD) {
         xs[at] = 1024;
+        xs[other] = 1024;
     }
     if calls::has(p, LOUD_BELOW) {
         xs[at] = -1024;
+        xs[other] = -1024;
     }
     xs
 }

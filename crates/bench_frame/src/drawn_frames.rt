@@ -1,4 +1,4 @@
-// The frame decoder against the plain decoder, over drawn calls, sound and faulty: the reply's number, and every entry of every list.
+// The frame decoder against the plain decoder, over drawn calls, sound and faulty: the reply's number and index, and every entry of every list.
 use crate::answer;
 use crate::answer::Answer;
 use crate::answer::Sizes;
@@ -49,7 +49,7 @@ fn agrees(
 }
 
 // One call taken into the tally.
-fn judged(t: Tally, expected: usize, sizes: Sizes, a: Answer, s: Soft) -> Tally {
+fn judged(t: Tally, expected: usize, place: usize, sizes: Sizes, a: Answer, s: Soft) -> Tally {
     let written = if expected == 0 { sizes.bits } else { 0 };
     let clears = expected == 0 || expected == 12 || expected == 13;
     let worked = if clears { a.zeros } else { a.kept };
@@ -57,7 +57,7 @@ fn judged(t: Tally, expected: usize, sizes: Sizes, a: Answer, s: Soft) -> Tally 
     let margins = a.margins;
     let extrinsics = a.extrinsics;
     let same = agrees(&bits, &margins, &extrinsics, s, written);
-    if same && a.number == expected && worked == sizes.work_len {
+    if same && a.number == expected && a.place == place && worked == sizes.work_len {
         return tally::one_more(t, expected);
     }
     tally::one_more(t, WRONG)
@@ -122,7 +122,8 @@ fn compared(
         soft = plain_soft(p, s.iterations, next, words, pattern, masks, received);
     }
     let a = answer::called(s, next, words, pattern, masks, received);
-    judged(t, expected, s, a, soft)
+    let place = plain_refusal::index_with(expected, received);
+    judged(t, expected, place, s, a, soft)
 }
 
 // One drawn call.

@@ -62,6 +62,33 @@ fn print_masks() {
     safe::end(with_masks(short, 1, 7, 7, 11, 0));
 }
 
+// Prints number and index for the house code, K = 2, T = 2, one mask and these values.
+fn put_place(mask: u8, received: &[i16]) {
+    let next = turbo::house_next();
+    let words = turbo::house_words();
+    let pattern: [u32; 2] = [1, 0];
+    let masks = [mask; 1];
+    let s = answer::right(4, 2, 2, 2);
+    let a = answer::called(s, &next, &words, &pattern, &masks, received);
+    safe::put(a.number);
+    safe::end(a.place);
+}
+
+// Under mask 4 a frame is the two systematic values and the tails, so that index 1 is not that of the frame spread out, 3.
+fn print_places() {
+    io::write_all(
+        1,
+        b"number and index of the first bad value: mask 4 and none; 0; 1; 9, in tail 2; 4 and 7; mask 8 and 6; mask 4 and 1, with one value less\n",
+    );
+    put_place(4, &[1023, -1023, 0, 0, 0, 0, 0, 0, 0, 0]);
+    put_place(4, &[-1024, 0, 0, 0, 0, 0, 0, 0, 0, 0]);
+    put_place(4, &[0, 1024, 0, 0, 0, 0, 0, 0, 0, 0]);
+    put_place(4, &[0, 0, 0, 0, 0, 0, 0, 0, 0, 1024]);
+    put_place(4, &[0, 0, 0, 0, 32767, 0, 0, -32768, 0, 0]);
+    put_place(8, &[0, 0, 0, 0, 0, 0, -1024, 0, 0, 0]);
+    put_place(4, &[0, 1024, 0, 0, 0, 0, 0, 0, 0]);
+}
+
 fn print_patterns() {
     io::write_all(
         1,
@@ -153,6 +180,7 @@ fn print_loud() {
 
 pub fn run() {
     print_masks();
+    print_places();
     print_patterns();
     print_tables();
     print_follower();

@@ -104,6 +104,35 @@ fn within(at: usize, last: usize) -> usize
     if at < last { at } else { last }
 }
 
+// A value outside -limit..limit: the nearest on either side, or the largest or smallest there is.
+fn outside(seed: u32, limit: u16) -> i16 {
+    let near = (limit % 32767 + 1) as i16;
+    match below(seed, 4) {
+        0 => near,
+        1 => 0 - near,
+        2 => 32767,
+        _ => -32768,
+    }
+}
+
+fn put_value(xs: &mut [i16], at: usize, value: i16) {
+    if at < xs.len() {
+        xs[at] = value;
+    }
+}
+
+// Puts values outside -limit..limit at one to three drawn indices.
+pub fn spoil(seed: u32, limit: u16, xs: &mut [i16]) {
+    let count = 1 + below(seed, 3) % 3;
+    let mut s = seed;
+    let mut i: usize = 0;
+    while i < count {
+        s = next(s);
+        put_value(xs, below(s, xs.len()), outside(later(s), limit));
+        i += 1;
+    }
+}
+
 // The numbers below a list's length, in a drawn order: each next one takes a drawn place among the first, and the one from there goes last.
 pub fn shuffle(seed: u32, xs: &mut [u32]) {
     let mut s = seed;

@@ -124,19 +124,30 @@ pub fn with_message(number: usize, bits: usize, message: &[u8]) -> usize {
     lower(a, message.len() != bits, 5)
 }
 
-// Whether a value is outside -1,023..1,023.
-fn has_loud(xs: &[i16]) -> bool {
-    let mut i: usize = 0;
-    while i < xs.len() {
-        if xs[i] < -1023 || 1023 < xs[i] {
-            return true;
+// The index of the first value outside -limit..limit, or the list's length. The search goes from the end, and the last one found is the first.
+pub fn first_outside(xs: &[i16], limit: i32) -> usize {
+    let mut first = xs.len();
+    let mut left = xs.len();
+    while 0 < left {
+        left -= 1;
+        let x = safe::wide(safe::half(xs, left));
+        if limit < x || limit < safe::minus(0, x) {
+            first = left;
         }
-        i += 1;
     }
-    false
+    first
 }
 
 // The lowest of the received values' number, 6, and another.
 pub fn with_values(number: usize, received: &[i16]) -> usize {
-    lower(number, has_loud(received), 6)
+    lower(number, first_outside(received, 1023) < received.len(), 6)
+}
+
+// The index that goes with a number: with 6 that of the first received value outside its limits, else 0.
+pub fn index_with(number: usize, received: &[i16]) -> usize {
+    if number == 6 {
+        first_outside(received, 1023)
+    } else {
+        0
+    }
 }

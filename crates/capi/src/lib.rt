@@ -1,10 +1,11 @@
-// The receiver for programs in other languages: a list is a pointer and a length, and the reply is its number. include/turbo.h declares these.
+// The receiver for programs in other languages: a list is a pointer and a length, the reply is its number, and the decoders write the index that 6 and 16
+// carry. include/turbo.h declares these.
 ghost use mathlib.Core.Bool.{cond};
 ghost use mathlib.Core.List.{_++_};
 ghost use mathlib.Core.Path.{_≡_};
 ghost use lib.Dec.{leb};
 ghost use lib.ListN.{length, drop};
-ghost use Rattle.refusal.specs.Refusals.{numberOf};
+ghost use Rattle.refusal.specs.Refusals.{numberOf, placeOf};
 ghost use Rattle.house.specs.House.{house};
 ghost use Rattle.taps.specs.Build.{tapsBuilt, tapsCallOf, tapsLentOf};
 ghost use Rattle.polynomial.specs.Polynomial.{patternBuilt, patternCallOf};
@@ -15,9 +16,19 @@ ghost use Rattle.coder.specs.Lent.{encodeOf};
 ghost use Rattle.decoder.specs.Decoder.{decode as decoded};
 ghost use Rattle.decoder.specs.Lent.{callOf, lentOf};
 ghost use Rattle.sheet.specs.Sheet.{answer as answerTo};
-ghost use Rattle.capi.specs.Returned.{returned, loneReturned, encodeReturned, decodeReturned};
+ghost use Rattle.capi.specs.Returned.{returned, indexed, loneReturned, encodeReturned, decodeReturned};
 ghost use Rattle.capi.specs.Returned.{tapsReturned, patternReturned, written};
 use refusal::Refusal;
+use refusal::Reply;
+
+// A decoder's reply: its number, and the index beside it, which is always written.
+fn tell(reply: Reply, index: &mut u64) -> u32
+    ensures { λ r. ⌜ r ≡ numberOf reply ⌝ }
+    ensures { λ _. ⌜ now (index .exit) ≡ placeOf reply ⌝ }
+{
+    *index = refusal::place_of(reply) as u64;
+    refusal::number_of(reply)
+}
 
 // The lone decoder.
 #[no_mangle]
@@ -33,16 +44,18 @@ pub extern "C" fn turbo_lone_decode(
     margins: &mut [i32],
     extrinsics: &mut [i32],
     work: &mut [i32],
+    index: &mut u64,
 ) -> u32
     ensures { λ r. ⌜
-        returned r (loneLentOf (now (marks .exit)) (now (margins .exit)) (now (extrinsics .exit)) (now (work .exit)))
+        indexed r (now (index .exit))
+        (loneLentOf (now (marks .exit)) (now (margins .exit)) (now (extrinsics .exit)) (now (work .exit)))
         ≡ loneReturned
         (loneDecoded
         (loneCallOf states outputs (now (next .entry)) (now (words .entry)) sections
         (now (channel .entry)) (now (apriori .entry)))
         (loneLentOf (now (marks .entry)) (now (margins .entry)) (now (extrinsics .entry)) (now (work .entry)))) ⌝ }
 {
-    refusal::number_of(siso::decode(
+    let reply = siso::decode(
         states,
         outputs,
         next,
@@ -54,7 +67,8 @@ pub extern "C" fn turbo_lone_decode(
         margins,
         extrinsics,
         work,
-    ))
+    );
+    tell(reply, index)
 }
 
 // The coder.
@@ -110,16 +124,18 @@ pub extern "C" fn turbo_decode(
     margins: &mut [i32],
     extrinsics: &mut [i32],
     work: &mut [i32],
+    index: &mut u64,
 ) -> u32
     ensures { λ r. ⌜
-        returned r (lentOf (now (bits .exit)) (now (margins .exit)) (now (extrinsics .exit)) (now (work .exit)))
+        indexed r (now (index .exit))
+        (lentOf (now (bits .exit)) (now (margins .exit)) (now (extrinsics .exit)) (now (work .exit)))
         ≡ decodeReturned
         (decoded
         (callOf states outputs (now (next .entry)) (now (words .entry)) k t (now (pattern .entry)) (now (masks .entry))
         (now (received .entry)) iterations)
         (lentOf (now (bits .entry)) (now (margins .entry)) (now (extrinsics .entry)) (now (work .entry)))) ⌝ }
 {
-    refusal::number_of(turbo::decode(
+    let reply = turbo::decode(
         states,
         outputs,
         next,
@@ -134,7 +150,8 @@ pub extern "C" fn turbo_decode(
         margins,
         extrinsics,
         work,
-    ))
+    );
+    tell(reply, index)
 }
 
 // The sheet. An answer always has bytes, so 0 says that the list has no room for it.

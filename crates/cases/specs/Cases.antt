@@ -44,10 +44,10 @@ pub data Case : Type 0 where
 unfoldable pub computed : Case → Case
 unfolding
     bind Option·elim orElse getLastD ones
-    ByIndex.listed ByIndex.joined ByIndex.keep ByIndex.every ByIndex.any ByIndex.count ByIndex.isEmpty ByIndex.found ByIndex.upto
+    ByIndex.listed ByIndex.joined ByIndex.keep ByIndex.every ByIndex.any ByIndex.firstFailing ByIndex.count ByIndex.isEmpty ByIndex.found ByIndex.upto
     Integers.maxℤ Integers.minℤ Integers.inside Integers.limited Integers.half
     Refusals.told Refusals.numberOf Refusals.check Refusals._then_ Refusals.after Refusals.cleared
-    Limits.sectionsFit Limits.channelFits Limits.aprioriFits
+    Limits.sectionsFit Limits.channelFits Limits.aprioriFits Limits.firstOutside
     Outcome.larger Outcome.greatest Outcome.best Outcome.outcomeOf Outcome.outcome Outcome.pathless Outcome.forced Outcome.mark Outcome.margin Outcome.systematicAt Outcome.intrinsic Outcome.extrinsic Outcome.positionOf Outcome.position Outcome.marks Outcome.margins Outcome.extrinsics
     Path.aprioriAt Path.channelAt Path.signed Path.wordMetric Path.branchMetric Path.metricFrom Path.finish Path.metric Path.allBits Path.terminating Path.paths Path.class
     Table.nextState Table.word Table.output Table.systematic Table.shaped Table.branched
@@ -59,7 +59,7 @@ unfolding
     Interleaver.permutes Interleaver.place Interleaver.interleave Interleaver.deinterleave
     Decimal.numeral Decimal.natural Decimal.opposite Decimal.integer Decimal.digitsIn Decimal.digits Decimal.decimal
     Rows.fieldAt Rows.dash Rows.valueOrUnsent Rows.starts Rows.messageRow Rows.tailRow
-    Sheet.linesOf Sheet.lastPiece Sheet.rowCount Sheet.messageBits Sheet.lineFits Sheet.faultFrom Sheet.firstFault Sheet.textReply Sheet.messageAt Sheet.tailAt Sheet.valuesOf Sheet.callOf Sheet.lentFor Sheet.refusalText Sheet.resultLine Sheet.resultText Sheet.printed Sheet.answer
+    Sheet.linesOf Sheet.lastPiece Sheet.rowCount Sheet.messageBits Sheet.lineFits Sheet.faultFrom Sheet.firstFault Sheet.textReply Sheet.messageAt Sheet.tailAt Sheet.valuesOf Sheet.callOf Sheet.lentFor Sheet.rowValues Sheet.loudLine Sheet.valueReply Sheet.refusalText Sheet.resultLine Sheet.resultText Sheet.printed Sheet.answer
     Text.bytes Text.onFirst Text.cut Text.same
 computed (lonePass c l r) = lonePass c l (Lone.decode c l)
 computed (sheet s a) = sheet s (Sheet.answer s)

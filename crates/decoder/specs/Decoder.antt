@@ -8,12 +8,12 @@ use lib.IntN.{ℤ, pos, negsuc}
 use lib.ListN.{length, getD, take, drop, replicate}
 use Rattle.integers.specs.Integers.{limited}
 use Rattle.lists.specs.Lists.{joined, any, upto}
-use Rattle.refusal.specs.declared.Refusal.the-variants.{Shape, Branch, Length, Lists, Value, Pattern, Mask, Iterations, Coder, NoPath, ForcedPosition}
+use Rattle.refusal.specs.declared.Refusal.the-variants.{Shape, Branch, Length, Lists, Pattern, Mask, Iterations, Coder, NoPath, ForcedPosition}
 use Rattle.refusal.specs.declared.Reply.{Reply}
 use Rattle.refusal.specs.Refusals.{check, _then_, after, cleared}
 use Rattle.trellis.specs.Table.{shaped, branched}
 use Rattle.trellis.specs.Path.{Values}
-use Rattle.trellis.specs.Limits.{aprioriLimit, channelFits}
+use Rattle.trellis.specs.Limits.{aprioriLimit, channelReply}
 use Rattle.trellis.specs.Outcome.{pathless, forced, margins, extrinsics}
 use Rattle.frame.specs.Interleaver.{permutes, interleave, deinterleave}
 use Rattle.frame.specs.Frame.{Frame, sections, sizesFit, masksFit, codes, frameLength, flags, spread}
@@ -125,7 +125,7 @@ decodeChecked c l =
     then check (branched (f .table)) Branch
     then check (sizesFit f) Length
     then check (decodeListsFit c l) Lists
-    then check (channelFits (c .received)) Value
+    then channelReply (c .received)
     then check (permutes (f .bits) (f .pattern)) Pattern
     then check (masksFit f) Mask
     then check (goodIterations (c .iterations)) Iterations

@@ -4,9 +4,9 @@ ghost use mathlib.Core.Path.{_≡_};
 ghost use Prim.Native.Nat.{_+_, _*_, _≤_};
 ghost use lib.Dec.{eqb, leb};
 ghost use lib.ListN.{length};
-ghost use Rattle.refusal.specs.declared.Refusal.the-variants.{Value, Pattern, Mask, Iterations, Coder};
+ghost use Rattle.refusal.specs.declared.Refusal.the-variants.{Pattern, Mask, Iterations, Coder};
 ghost use Rattle.refusal.specs.Refusals.{check, _then_};
-ghost use Rattle.trellis.specs.Limits.{channelFits};
+ghost use Rattle.trellis.specs.Limits.{channelReply};
 ghost use Rattle.trellis.specs.Table.{tableOf};
 ghost use Rattle.frame.specs.Frame.{goodSizes, goodMasks, goodCoder, lengthUnder};
 ghost use Rattle.frame.specs.Interleaver.{permutes};
@@ -79,14 +79,14 @@ fn entries_reply(
     received: &[i16],
     iterations: usize,
 ) -> Reply
-    ensures { λ r. ⌜ r ≡ (check (channelFits (now (received .entry))) Value
+    ensures { λ r. ⌜ r ≡ (channelReply (now (received .entry))
         then check (leb (length (now (pattern .entry))) 4096
         && permutes (length (now (pattern .entry))) (now (pattern .entry))) Pattern
         then check (goodMasks (now (masks .entry))) Mask
         then check (goodIterations iterations) Iterations
         then check (goodCoder (tableOf states outputs (now (next .entry)) (now (words .entry)))) Coder) ⌝ }
 {
-    let values_reply = refusal::check(trellis::all_inside(received, 1023), Refusal::Value);
+    let values_reply = trellis::channel_reply(received);
     let pattern_reply = refusal::check(frame::permutes(pattern), Refusal::Pattern);
     let masks_reply = refusal::check(frame::masks_fit(masks), Refusal::Mask);
     let iterations_reply = refusal::check(iterations_fit(iterations), Refusal::Iterations);

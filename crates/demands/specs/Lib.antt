@@ -5,4 +5,5 @@ pub mod Coded
 pub mod Message
 pub mod Answered
 pub mod Codes
+pub mod Placed
 pub mod laws

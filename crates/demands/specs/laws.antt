@@ -17,3 +17,4 @@ pub mod RightSigned
 pub mod EverySheet
 pub mod Tailed
 pub mod EveryCode
+pub mod EveryPlace

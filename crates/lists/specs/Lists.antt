@@ -31,6 +31,11 @@ module _ {A : Type 0} where
   any f [] = false
   any f (x ∷ xs) = f x || any f xs
 
+  -- the index of the first entry that fails; the length where none does
+  unfoldable pub firstFailing : (A → Bool) → List A → ℕ
+  firstFailing f [] = 0
+  firstFailing f (x ∷ xs) = cond (f x) (suc (firstFailing f xs)) 0
+
   -- how many entries pass
   unfoldable pub count : (A → Bool) → List A → ℕ
   count f [] = 0

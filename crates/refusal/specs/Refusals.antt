@@ -1,5 +1,5 @@
--- Refusals: the number and the line of each, the first that applies, and what a reply leaves of the lists that were lent
--- (document 01, "Refused frames and calls"; document 02 adds 15, which stands after 2).
+-- Refusals: the number and the place of each, the first that applies, and what a reply leaves of the lists that were lent
+-- (document 01, "Refused frames and calls"; document 02 adds 15, which stands after 2, and 16, which stands after 6).
 -- Assumes nothing.
 use mathlib.Core.Bool.{Bool, true, false, cond, _||_}
 use mathlib.Core.List.{List}
@@ -8,27 +8,28 @@ use lib.Dec.{eqb}
 use lib.IntN.{ℤ, pos}
 use lib.ListN.{length, replicate}
 use Rattle.refusal.specs.declared.Refusal.{Refusal}
-use Rattle.refusal.specs.declared.Refusal.the-variants.{Text, Shape, Polynomial, Branch, Length, Lists, Value, Bit, Pattern, Mask, Iterations, Coder, NoPath, ForcedPosition, NoTail}
+use Rattle.refusal.specs.declared.Refusal.the-variants.{Text, Shape, Polynomial, Branch, Length, Lists, Value, Apriori, Bit, Pattern, Mask, Iterations, Coder, NoPath, ForcedPosition, NoTail}
 use Rattle.refusal.specs.declared.Reply.{Reply}
 use Rattle.refusal.specs.declared.Reply.the-variants.{Done, Refused}
 
--- a refusal as it is told: its number, and the line of the sheet
+-- a refusal as it is told: its number, and where the fault sits. For a call that is the index in the list lent, and for a sheet the line
 pub record Told : Type 0 where
   pub number : ℕ
-  pub line : ℕ
+  pub place : ℕ
 
--- the line is 0 for every number but 1
+-- the place is 0 for every number but 1, 6 and 16
 abbrev plain : ℕ → Told
-plain n = record { number = n; line = 0 }
+plain n = record { number = n; place = 0 }
 
 unfoldable pub told : Refusal → Told
-told (Text line) = record { number = 1; line = line }
+told (Text line) = record { number = 1; place = line }
 told Shape = plain 2
 told Polynomial = plain 15
 told Branch = plain 3
 told Length = plain 4
 told Lists = plain 5
-told Value = plain 6
+told (Value place) = record { number = 6; place = place }
+told (Apriori index) = record { number = 16; place = index }
 told Bit = plain 7
 told Pattern = plain 8
 told Mask = plain 9
@@ -42,6 +43,11 @@ told NoTail = plain 14
 unfoldable pub numberOf : Reply → ℕ
 numberOf Done = 0
 numberOf (Refused r) = told r .number
+
+-- the place that a reply names, 0 where the call is done
+unfoldable pub placeOf : Reply → ℕ
+placeOf Done = 0
+placeOf (Refused r) = told r .place
 
 -- a check: refused by r unless the test holds
 unfoldable pub check : Bool → Refusal → Reply

@@ -1,6 +1,6 @@
-// Every refusal, the reply of an entry, and checks in turn. The number and the line of each refusal are definitions of specs/.
+// Every refusal, the reply of an entry, and checks in turn. The number and the place of each refusal are definitions of specs/.
 ghost use mathlib.Core.Path.{_≡_};
-ghost use Rattle.refusal.specs.Refusals.{told, numberOf, check as checkOf, _then_};
+ghost use Rattle.refusal.specs.Refusals.{told, numberOf, placeOf, check as checkOf, _then_};
 
 pub enum Refusal {
     // The sheet's text, with the faulty line, or 0.
@@ -11,7 +11,10 @@ pub enum Refusal {
     Branch,
     Length,
     Lists,
-    Value,
+    // A channel value out of range, with the index of the first in its list; on a sheet with its line.
+    Value(usize),
+    // An a-priori value out of range, with the index of the first. It stands after 6.
+    Apriori(usize),
     Bit,
     Pattern,
     Mask,
@@ -38,7 +41,8 @@ pub fn number_of_refusal(why: Refusal) -> u32
         Refusal::Branch => 3,
         Refusal::Length => 4,
         Refusal::Lists => 5,
-        Refusal::Value => 6,
+        Refusal::Value(_) => 6,
+        Refusal::Apriori(_) => 16,
         Refusal::Bit => 7,
         Refusal::Pattern => 8,
         Refusal::Mask => 9,
@@ -50,12 +54,14 @@ pub fn number_of_refusal(why: Refusal) -> u32
     }
 }
 
-// The line of a refusal: 0 for every number but 1.
-pub fn line_of(why: Refusal) -> usize
-    ensures { λ r. ⌜ r ≡ told why .line ⌝ }
+// The place that a refusal names, 0 where it names none.
+pub fn place_of_refusal(why: Refusal) -> usize
+    ensures { λ r. ⌜ r ≡ told why .place ⌝ }
 {
     match why {
         Refusal::Text(line) => line,
+        Refusal::Value(index) => index,
+        Refusal::Apriori(index) => index,
         _ => 0,
     }
 }
@@ -68,6 +74,16 @@ pub fn number_of(reply: Reply) -> u32
         Reply::Done => 0,
         Reply::Refused(reason) => number_of_refusal(reason),
     }
+}
+
+// The place that a reply names: 0 where the call is done.
+pub fn place_of(reply: Reply) -> usize
+    ensures { λ r. ⌜ r ≡ placeOf reply ⌝ }
+{
+    let Reply::Refused(why) = reply else {
+        return 0;
+    };
+    place_of_refusal(why)
 }
 
 // One check: refused by `why` unless it passes.

@@ -7,14 +7,15 @@ use Prim.Native.Nat.{ℕ, zero, suc, _+_, _-_, _*_}
 use lib.Dec.{leb, ltb}
 use lib.IntN.{ℤ, pos}
 use lib.ListN.{length, getD, replicate}
-use Rattle.lists.specs.Lists.{listed, joined, isEmpty, found}
+use Rattle.lists.specs.Lists.{listed, joined, firstFailing, isEmpty, found}
 use Rattle.text.specs.Text.{bytes, lineFeed, cut, same}
 use Rattle.text.specs.Decimal.{digits, decimal}
 use Rattle.refusal.specs.declared.Refusal.{Refusal}
-use Rattle.refusal.specs.declared.Refusal.the-variants.{Text}
+use Rattle.refusal.specs.declared.Refusal.the-variants.{Text, Value}
 use Rattle.refusal.specs.declared.Reply.{Reply}
 use Rattle.refusal.specs.declared.Reply.the-variants.{Done, Refused}
 use Rattle.refusal.specs.Refusals.{told, check, _then_}
+use Rattle.trellis.specs.Limits.{channelFits}
 use Rattle.house.specs.House.{house}
 use Rattle.decoder.specs.Decoder.{DecodeCall, DecodeLent, decode}
 use Rattle.sheet.specs.Rows.{MessageRow, TailRow, messageRow, tailRow}
@@ -75,10 +76,17 @@ tailAt sheet j =
 abbrev received : Option ℤ → ℤ
 received x = Option·getD x (pos 0)
 
+-- the values of message row k and of tail row j, from left to right
+abbrev pub messageValues : List ℕ → ℕ → List ℤ
+messageValues sheet k = received (messageAt sheet k .sys) ∷ received (messageAt sheet k .par) ∷ received (messageAt sheet k .par2) ∷ []
+
+abbrev pub tailValues : List ℕ → ℕ → List ℤ
+tailValues sheet j = tailAt sheet j .sys ∷ tailAt sheet j .par ∷ tailAt sheet j .par2 ∷ tailAt sheet j .sys2 ∷ []
+
 -- the values of every place: the message rows, then tail 1, then tail 2
 unfoldable pub valuesOf : List ℕ → List ℤ
 valuesOf sheet =
-    joined (λ k. received (messageAt sheet k .sys) ∷ received (messageAt sheet k .par) ∷ received (messageAt sheet k .par2) ∷ []) (messageBits sheet)
+    joined (messageValues sheet) (messageBits sheet)
     ++ joined (λ j. tailAt sheet j .sys ∷ tailAt sheet j .par ∷ []) 2
     ++ joined (λ j. tailAt sheet j .sys2 ∷ tailAt sheet j .par2 ∷ []) 2
 
@@ -102,11 +110,24 @@ lentFor sheet =
     let k = messageBits sheet in
     record { bits = replicate k 0; margins = replicate k (pos 0); extrinsics = replicate k (pos 0); work = replicate ((k + 3) * 4) (pos 0) }
 
+-- ---- a value outside its limits (6)
+
+-- the values in reading order: row by row, each from left to right. The tails stand side by side there, and one after the other in the frame
+unfoldable pub rowValues : List ℕ → List (List ℤ)
+rowValues sheet = listed (messageValues sheet) (messageBits sheet) ++ listed (tailValues sheet) 2
+
+-- the line of the first value outside its limits in that order, the header being 1
+unfoldable pub loudLine : List ℕ → ℕ
+loudLine sheet = firstFailing channelFits (rowValues sheet) + 2
+
+unfoldable pub valueReply : List ℕ → Reply
+valueReply sheet = check (channelFits (valuesOf sheet)) (Value (loudLine sheet))
+
 -- ---- the answer
 
 -- the number, one space and the line
 unfoldable pub refusalText : Refusal → List ℕ
-refusalText r = bytes "refused line\n" ++ digits (told r .number) ++ bytes " " ++ digits (told r .line) ++ bytes "\n"
+refusalText r = bytes "refused line\n" ++ digits (told r .number) ++ bytes " " ++ digits (told r .place) ++ bytes "\n"
 
 -- a line for each message position
 unfoldable pub resultLine : DecodeLent → ℕ → List ℕ
@@ -121,8 +142,8 @@ unfoldable pub printed : Reply → DecodeLent → List ℕ
 printed Done l = resultText l
 printed (Refused r) l = refusalText r
 
--- what the program prints for a sheet: 1 stands before every number that the frame decoder gives
+-- what the program prints for a sheet: 1, then 6 with its line, stand before every other number that the frame decoder gives
 unfoldable pub answer : List ℕ → List ℕ
 answer sheet =
     let result = decode (callOf sheet) (lentFor sheet) in
-    printed (textReply sheet then result .reply) (result .lists)
+    printed (textReply sheet then valueReply sheet then result .reply) (result .lists)

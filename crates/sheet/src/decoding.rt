@@ -1,4 +1,5 @@
 // A sheet's frame decoded, and its result or its refusal written.
+ghost use mathlib.Core.Bool.{true};
 ghost use mathlib.Core.List.{[], _∷_};
 ghost use mathlib.Core.Path.{_≡_};
 ghost use Prim.Native.Nat.{_+_, _*_, _≤_};
@@ -8,8 +9,11 @@ ghost use Rattle.decoder.specs.Decoder.{decode as decoded};
 ghost use Rattle.decoder.specs.Lent.{lentOf, resultOf};
 ghost use Rattle.refusal.specs.declared.Reply.the-variants.{Done};
 ghost use Rattle.sheet.specs.Sheet.{messageBits, textReply, answer};
-ghost use Rattle.sheet.specs.laws.Decoding.{houseCall, blankFor, printedBy};
+ghost use Rattle.trellis.specs.Limits.{channelFits};
+ghost use Rattle.sheet.specs.laws.Decoding.{houseCall, blankFor, printedAfter};
+ghost use Rattle.sheet.specs.laws.Loud.{loudIn};
 ghost use Rattle.sheet.specs.laws.Printing.{Wrote};
+use crate::loud::loud_line;
 use crate::print::put_refusal;
 use crate::print::put_result;
 use crate::values::narrow_all;
@@ -69,12 +73,13 @@ fn blank_work() -> [i32; 2060]
     [0; 2060]
 }
 
-// The frame decoded over lists of zeros.
+// The frame decoded over lists of zeros. Its values are within their limits, so a refusal names no place.
 fn decode_frame(page: &mut [u8], pattern: &[u32], received: &[i16]) -> usize
     requires { ⌜ length (now page) ≡ 24600 ⌝ }
     requires { ⌜ length (now pattern) ≤ 512 ⌝ }
+    requires { ⌜ channelFits (now received) ≡ true ⌝ }
     ensures { λ r. ⌜ Wrote 24600 (now (page .entry)) 0
-        (printedBy (decoded (houseCall (now (pattern .entry)) (now (received .entry))) (blankFor (length (now (pattern .entry))))))
+        (printedAfter Done (decoded (houseCall (now (pattern .entry)) (now (received .entry))) (blankFor (length (now (pattern .entry))))))
         (now (page .exit)) r ⌝ }
 {
     let k = pattern.len();
@@ -103,20 +108,22 @@ fn blank_received() -> [i16; 1544]
     [0; 1544]
 }
 
-// A value outside the decoder's limit is 6; else the frame is decoded.
+// A value outside the decoder's limit is 6, with its line; else the frame is decoded.
 fn decode_values(page: &mut [u8], pattern: &[u32], values: &[i32]) -> usize
     requires { ⌜ length (now page) ≡ 24600 ⌝ }
     requires { ⌜ 1 ≤ length (now pattern) ⌝ }
     requires { ⌜ length (now pattern) ≤ 512 ⌝ }
     requires { ⌜ length (now values) ≡ 3 * length (now pattern) + 8 ⌝ }
     ensures { λ r. ⌜ Wrote 24600 (now (page .entry)) 0
-        (printedBy (decoded (houseCall (now (pattern .entry)) (now (values .entry))) (blankFor (length (now (pattern .entry))))))
+        (printedAfter (loudIn (length (now (pattern .entry))) (now (values .entry)))
+        (decoded (houseCall (now (pattern .entry)) (now (values .entry))) (blankFor (length (now (pattern .entry))))))
         (now (page .exit)) r ⌝ }
 {
     let count = values.len();
     let mut received = blank_received();
     if !narrow_all(values, &mut received[..count]) {
-        return put_refusal(page, Refusal::Value);
+        let line = loud_line(values, pattern.len());
+        return put_refusal(page, Refusal::Value(line));
     }
     decode_frame(page, pattern, &received[..count])
 }

@@ -10,6 +10,7 @@ ghost use Rattle.sheet.specs.laws.Printing.{Wrote};
 mod decoding;
 mod faults;
 mod lines;
+mod loud;
 mod print;
 mod rows;
 mod values;

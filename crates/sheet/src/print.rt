@@ -79,11 +79,11 @@ pub fn put_result(page: &mut [u8], bits: &[u8], margins: &[i32], extrinsics: &[i
 // A refusal: its number and its line.
 pub fn put_refusal(page: &mut [u8], why: Refusal) -> usize
     requires { ⌜ length (now page) ≡ 24600 ⌝ }
-    requires { ⌜ told why .line ≤ 516 ⌝ }
+    requires { ⌜ told why .place ≤ 516 ⌝ }
     ensures { λ r. ⌜ Wrote 24600 (now (page .entry)) 0 (refusalText why) (now (page .exit)) r ⌝ }
 {
     let number = refusal::number_of_refusal(why) as i32;
-    let line = refusal::line_of(why) as i32;
+    let line = refusal::place_of_refusal(why) as i32;
     let one = put(page, 0, b"refused line\n");
     let two = put_number(page, one, number, 32);
     put_number(page, two, line, 10)

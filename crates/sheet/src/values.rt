@@ -8,8 +8,8 @@ ghost use Rattle.integers.specs.Integers.{inside};
 ghost use Rattle.lists.specs.Lists.{listed, joined};
 ghost use Rattle.text.specs.Text.{cut};
 ghost use Rattle.trellis.specs.Limits.{channelFits};
-ghost use Rattle.sheet.specs.Sheet.{messageAt};
-ghost use Rattle.sheet.specs.laws.Receiving.{messageValues, tailValues, tailIn, valuesTo};
+ghost use Rattle.sheet.specs.Sheet.{messageAt, messageValues};
+ghost use Rattle.sheet.specs.laws.Receiving.{bothTails, tailIn, valuesTo};
 use crate::Tail;
 use crate::lines::piece;
 use crate::rows::message;
@@ -87,7 +87,7 @@ fn put_second(values: &mut [i32], at: usize, row: Tail) -> usize
 // Both tails, each row by row.
 fn put_tails(values: &mut [i32], at: usize, a: Tail, b: Tail)
     requires { ⌜ length (now values) ≡ at + 8 ⌝ }
-    ensures { λ _. ⌜ now (values .exit) ≡ take at (now (values .entry)) ++ tailValues a b ⌝ }
+    ensures { λ _. ⌜ now (values .exit) ≡ take at (now (values .entry)) ++ bothTails a b ⌝ }
 {
     let one = put_first(values, at, a);
     let two = put_first(values, one, b);
@@ -111,7 +111,7 @@ pub fn read_frame(sheet: &[u8], pattern: &mut [u32], values: &mut [i32])
 }
 
 // A value is within the decoder's limit.
-fn is_small(v: i32) -> bool
+pub fn is_small(v: i32) -> bool
     ensures { λ r. ⌜ r ≡ inside 1023 v ⌝ }
 {
     if v < -1023 {

@@ -6,12 +6,12 @@ use Prim.Native.Nat.{ℕ, _+_, _*_}
 use lib.Dec.{eqb}
 use lib.IntN.{ℤ}
 use lib.ListN.{length}
-use Rattle.refusal.specs.declared.Refusal.the-variants.{Shape, Branch, Length, Lists, Value, NoPath}
+use Rattle.refusal.specs.declared.Refusal.the-variants.{Shape, Branch, Length, Lists, NoPath}
 use Rattle.refusal.specs.declared.Reply.{Reply}
 use Rattle.refusal.specs.Refusals.{check, _then_, after, cleared}
 use Rattle.trellis.specs.Table.{Table, shaped, branched}
 use Rattle.trellis.specs.Path.{Values}
-use Rattle.trellis.specs.Limits.{sectionsFit, channelFits, aprioriFits}
+use Rattle.trellis.specs.Limits.{sectionsFit, channelReply, aprioriReply}
 use Rattle.trellis.specs.Outcome.{pathless, marks, margins, extrinsics}
 
 -- what the lone decoder reads: a table, the number of sections N, and the values of one pass
@@ -45,7 +45,8 @@ checked c l =
     then check (branched (c .table)) Branch
     then check (sectionsFit (c .sections)) Length
     then check (listsFit c l) Lists
-    then check (channelFits (c .values .channel) && aprioriFits (c .values .apriori)) Value
+    then channelReply (c .values .channel)
+    then aprioriReply (c .values .apriori)
 
 -- there is a path (not so: 12)
 unfoldable pub walked : Call → Reply

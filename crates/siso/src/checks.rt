@@ -3,7 +3,6 @@ ghost use mathlib.Core.Bool.{_&&_};
 ghost use mathlib.Core.Path.{_≡_};
 ghost use Prim.Native.Nat.{_+_, _*_, _≤_};
 ghost use lib.Dec.{eqb};
-ghost use Rattle.trellis.specs.Limits.{channelFits, aprioriFits};
 ghost use Rattle.siso.specs.Decode.{Lent, checked};
 ghost use Rattle.siso.specs.Lent.{callOf};
 ghost use Rattle.siso.specs.laws.Pass.{Sized};
@@ -51,16 +50,6 @@ fn lists_fit(
     work == (sections + 1) * states
 }
 
-// Every value is within its limit.
-fn values_fit(channel: &[i16], apriori: &[i16]) -> bool
-    ensures { λ r. ⌜ r ≡ (channelFits (now (channel .entry)) && aprioriFits (now (apriori .entry))) ⌝ }
-{
-    if !trellis::all_inside(channel, 1023) {
-        return false;
-    }
-    trellis::all_inside(apriori, 8191)
-}
-
 // The reply to a call, but for 12, from what is lent alone: of the lists to be written, their lengths.
 pub fn reply(
     states: usize,
@@ -104,6 +93,8 @@ pub fn reply(
         work,
     );
     let lists_reply = refusal::check(lists, Refusal::Lists);
-    let values_reply = refusal::check(values_fit(channel, apriori), Refusal::Value);
+    let channel_reply = trellis::channel_reply(channel);
+    let apriori_reply = trellis::apriori_reply(apriori);
+    let values_reply = refusal::first_of(channel_reply, apriori_reply);
     refusal::first_of(lists_reply, values_reply)
 }

@@ -13,3 +13,4 @@ pub mod Recursion
 pub mod Emptiness
 pub mod RightSigned
 pub mod Returning
+pub mod Outside

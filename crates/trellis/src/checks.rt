@@ -74,7 +74,7 @@ fn size(x: i16) -> u32
     }
 }
 
-fn inside(x: i16, limit: u32) -> bool
+pub fn inside(x: i16, limit: u32) -> bool
     ensures { λ r. ⌜ r ≡ insideOf limit x ⌝ }
 {
     size(x) <= limit

@@ -1,15 +1,15 @@
-// One call of each entry: drawn from its seed, answered by both sides, compared in its number and in every list.
+// One call of each entry: drawn from its seed, answered by both sides, compared in its number, in the index told and in every list.
 use crate::draw::{self, Draw};
 use crate::lent::List;
-use plain::{clears_work, coder, frame_decoder, listing, lone};
+use plain::{clears_work, coder, frame_decoder, listing, lone, Refused};
 use turbo::raw;
 
 // Numbers are below this; it stands for an answer that is none.
-pub const NUMBERS: u32 = 16;
+pub const NUMBERS: u32 = 17;
 
 pub struct Answer {
     pub number: u32,
-    // Of a sheet refused by 1; else 0.
+    // Of a refused sheet; else 0.
     pub line: usize,
     pub differences: Vec<String>,
 }
@@ -44,13 +44,23 @@ pub fn short(d: &mut Draw) -> usize {
     }
 }
 
+// The number and the index that a decoder must give.
+fn asked_reply<L>(asked: &Result<L, Refused>) -> (u32, u64) {
+    asked.as_ref().err().map_or((0, 0), |r| (r.number, r.index as u64))
+}
+
 fn work_after(number: u32, length: usize) -> Option<Vec<i32>> {
     clears_work(number).then(|| vec![0; length])
 }
 
 pub fn lone_decode(d: &mut Draw, most: Option<usize>) -> Answer {
-    let (call, lent) = lone_call(d, most);
-    let asked = lone::decode(&call, lent);
+    let (mut call, mut lent) = lone_call(d, most);
+    damage_lone(d, &mut call, &mut lent);
+    lone_decoded(d, &call, lent)
+}
+
+fn lone_decoded(d: &mut Draw, call: &lone::Call, lent: lone::Lent) -> Answer {
+    let asked = lone::decode(call, lent);
     let t = &call.table;
 
     let next = List::of("next", d, &t.next);
@@ -61,6 +71,7 @@ pub fn lone_decode(d: &mut Draw, most: Option<usize>) -> Answer {
     let mut margins = List::any("margins", d, lent.margins);
     let mut extrinsics = List::any("extrinsics", d, lent.extrinsics);
     let mut work = List::any("work", d, lent.work);
+    let mut index = List::any("index", d, 1);
     let number = raw::lone_decode(
         t.states,
         t.outputs,
@@ -73,9 +84,10 @@ pub fn lone_decode(d: &mut Draw, most: Option<usize>) -> Answer {
         margins.entries_mut(),
         extrinsics.entries_mut(),
         work.entries_mut(),
+        &mut index.entries_mut()[0],
     );
 
-    let asked_number = asked.as_ref().err().copied().unwrap_or(0);
+    let (asked_number, asked_index) = asked_reply(&asked);
     let results = asked.as_ref().ok();
     let mut x = Differences::new(number, asked_number);
     x.add(next.check(None));
@@ -86,6 +98,7 @@ pub fn lone_decode(d: &mut Draw, most: Option<usize>) -> Answer {
     x.add(margins.check(results.map(|l| &l.margins[..])));
     x.add(extrinsics.check(results.map(|l| &l.extrinsics[..])));
     x.add(work.check(work_after(asked_number, lent.work).as_deref()));
+    x.add(index.check(Some(&[asked_index])));
     // the plain side's recursion against a listing of all paths
     if (asked_number == 0 || asked_number == 12) && call.sections <= 10 {
         let by_paths = listing::pass(t, call.sections, &call.channel, &call.apriori);
@@ -111,10 +124,14 @@ fn lone_call(d: &mut Draw, most: Option<usize>) -> (lone::Call, lone::Lent) {
     };
     let channel = draw::values(d, outputs * sections, 1023);
     let apriori = draw::values(d, sections, 8191);
-    let mut lent = lone::Lent { marks: sections, margins: sections, extrinsics: sections, work: (sections + 1) * table.states };
-    let mut call = lone::Call { table, sections, channel, apriori };
+    let lent = lone::Lent { marks: sections, margins: sections, extrinsics: sections, work: (sections + 1) * table.states };
+    (lone::Call { table, sections, channel, apriori }, lent)
+}
+
+fn damage_lone(d: &mut Draw, call: &mut lone::Call, lent: &mut lone::Lent) {
+    let sections = call.sections;
     for _ in 0..faults(d) {
-        match d.below(12) {
+        match d.below(13) {
             0..=2 => draw::damage_table(d, &mut call.table),
             3 => call.sections = d.of(&[0, 4097, 4098, sections + 1, sections - 1]),
             4 => call.sections = d.of(&draw::WILD),
@@ -126,17 +143,34 @@ fn lone_call(d: &mut Draw, most: Option<usize>) -> (lone::Call, lone::Lent) {
                 let n = draw::off(d, call.apriori.len());
                 call.apriori.resize(n, 0);
             }
-            7 => draw::damage_value(d, &mut call.channel, 1023),
-            8 => draw::damage_value(d, &mut call.apriori, 8191),
-            9 => lent.marks = draw::off(d, lent.marks),
-            10 => {
+            7 => draw::damage_values(d, &mut call.channel, 1023),
+            8 => draw::damage_values(d, &mut call.apriori, 8191),
+            9 => {
+                draw::damage_values(d, &mut call.channel, 1023);
+                draw::damage_values(d, &mut call.apriori, 8191);
+            }
+            10 => lent.marks = draw::off(d, lent.marks),
+            11 => {
                 let which = if d.chance(2) { &mut lent.margins } else { &mut lent.extrinsics };
                 *which = draw::off(d, *which);
             }
             _ => lent.work = draw::off(d, lent.work),
         }
     }
-    (call, lent)
+}
+
+// Nothing is wrong but values out of range, in one list or in both.
+pub fn lone_values(d: &mut Draw) -> Answer {
+    let most = d.chance(100).then_some(4096);
+    let (mut call, lent) = lone_call(d, most);
+    let which = d.below(3);
+    if which != 0 {
+        draw::damage_values(d, &mut call.channel, 1023);
+    }
+    if which != 1 {
+        draw::damage_values(d, &mut call.apriori, 8191);
+    }
+    lone_decoded(d, &call, lent)
 }
 
 pub fn encode(d: &mut Draw, most: Option<usize>) -> Answer {
@@ -245,7 +279,7 @@ pub fn decode(d: &mut Draw, most: Option<usize>) -> Answer {
                 let n = draw::off(d, call.received.len());
                 call.received.resize(n, 0);
             }
-            9 => draw::damage_value(d, &mut call.received, 1023),
+            9 => draw::damage_values(d, &mut call.received, 1023),
             10 => call.iterations = d.of(&[0, 33, 34, 256, usize::MAX]),
             11 => lent.bits = draw::off(d, lent.bits),
             12 => {
@@ -256,6 +290,31 @@ pub fn decode(d: &mut Draw, most: Option<usize>) -> Answer {
         }
     }
     decoded(d, &call, lent)
+}
+
+// Values out of range, alone or beside a fault whose number stands after 6. Without right masks the frame's list may have any length.
+pub fn decode_values(d: &mut Draw) -> Answer {
+    let most = if d.chance(100) { 4096 } else { short(d) };
+    let mut frame = draw::frame(d, most);
+    // something is sent
+    if frame.length() == 0 {
+        frame.masks = vec![7];
+    }
+    let mut received = received(d, &frame);
+    let lent = lent_for(&frame);
+    let mut iterations = 1;
+    match d.below(8) {
+        0 => frame.pattern[0] = frame.bits as u32,
+        1 => {
+            frame.masks = vec![8];
+            received.resize(d.size(1, 40), 0);
+        }
+        2 => iterations = 33,
+        3 => frame.table.words[0] ^= 1,
+        _ => {}
+    }
+    draw::damage_values(d, &mut received, 1023);
+    decoded(d, &frame_decoder::Call { frame, received, iterations }, lent)
 }
 
 pub fn decoded(d: &mut Draw, call: &frame_decoder::Call, lent: frame_decoder::Lent) -> Answer {
@@ -271,6 +330,7 @@ pub fn decoded(d: &mut Draw, call: &frame_decoder::Call, lent: frame_decoder::Le
     let mut margins = List::any("margins", d, lent.margins);
     let mut extrinsics = List::any("extrinsics", d, lent.extrinsics);
     let mut work = List::any("work", d, lent.work);
+    let mut index = List::any("index", d, 1);
     let number = raw::decode(
         t.states,
         t.outputs,
@@ -286,9 +346,10 @@ pub fn decoded(d: &mut Draw, call: &frame_decoder::Call, lent: frame_decoder::Le
         margins.entries_mut(),
         extrinsics.entries_mut(),
         work.entries_mut(),
+        &mut index.entries_mut()[0],
     );
 
-    let asked_number = asked.as_ref().err().copied().unwrap_or(0);
+    let (asked_number, asked_index) = asked_reply(&asked);
     let results = asked.as_ref().ok();
     let mut x = Differences::new(number, asked_number);
     x.add(next.check(None));
@@ -300,6 +361,7 @@ pub fn decoded(d: &mut Draw, call: &frame_decoder::Call, lent: frame_decoder::Le
     x.add(margins.check(results.map(|l| &l.margins[..])));
     x.add(extrinsics.check(results.map(|l| &l.extrinsics[..])));
     x.add(work.check(work_after(asked_number, lent.work).as_deref()));
+    x.add(index.check(Some(&[asked_index])));
     Answer { number, line: 0, differences: x.0 }
 }
 

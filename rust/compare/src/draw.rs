@@ -170,9 +170,15 @@ pub fn damage_table(d: &mut Draw, t: &mut Table) {
     }
 }
 
-pub fn damage_value(d: &mut Draw, values: &mut [i16], limit: i16) {
-    if !values.is_empty() {
-        let at = d.below(values.len());
+// Values out of range at one place or at several, the first and the last among them more often than others.
+pub fn damage_values(d: &mut Draw, values: &mut [i16], limit: i16) {
+    let Some(last) = values.len().checked_sub(1) else { return };
+    for _ in 0..d.of(&[1, 1, 2, 3, 6]) {
+        let at = match d.below(8) {
+            0 => 0,
+            1 => last,
+            _ => d.size(0, last),
+        };
         values[at] = d.of(&[limit + 1, -limit - 1, i16::MAX, i16::MIN]);
     }
 }

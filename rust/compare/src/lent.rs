@@ -10,7 +10,7 @@ pub trait Entry: Copy + PartialEq + std::fmt::Debug {
 macro_rules! entry {
     ($($t:ty)*) => { $(impl Entry for $t { fn drawn(d: &mut Draw) -> $t { d.next() as $t } })* };
 }
-entry!(u8 i16 u32 i32);
+entry!(u8 i16 u32 i32 u64);
 
 pub struct List<T> {
     name: &'static str,

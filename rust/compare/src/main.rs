@@ -1,12 +1,14 @@
 //! Random calls of the static library against the plain receiver: tables of every size, frames short and long, sheets of every K, valid and
 //! damaged calls; sheets with the answers that document 01 asks for; every table from taps, every polynomial pattern of up to 200 entries, and
-//! frames over such tables. The number returned, every list written, every list read and what stands beside each list are compared. Exit status 1
-//! on any difference, or where a number that an entry can give, or a line that it must tell, was never given, or where one was given that it must
-//! not give.
+//! frames over such tables. The number returned, the index told with it, every list written, every list read and what stands beside each list are
+//! compared. Exit status 1 on any difference, or where a number that an entry can give, or a line that it must tell, was never given, or where
+//! one was given that it must not give.
 //!
-//!     compare                   120,000 short calls and 260 long ones; all 680 tables from taps and 20,000 damaged calls for one; the patterns of
-//!                               all 2,686,700 polynomials with K up to 200, and 20,000 drawn and damaged ones up to 4,096; 20,000 frames over
-//!                               tables from taps; 1,024 sheets of every K, 515 with a fault in each line, 33,000 damaged ones
+//!     compare                   120,000 short calls and 260 long ones; 20,000 with values out of range; all 680 tables from taps and 20,000
+//!                               damaged calls for one; the patterns of all 2,686,700 polynomials with K up to 200, and 20,000 drawn and damaged
+//!                               ones up to 4,096; 20,000 frames over tables from taps; 1,024 sheets of every K, 515 with a fault in each line,
+//!                               16,383 with each set of loud values of a small sheet, 1,544 with each value of the largest loud, 35,000
+//!                               damaged ones
 //!     compare --long            twenty times the calls
 //!     compare --seed N          other calls; the seed is printed
 //!     compare --only STAGE      one stage
@@ -34,16 +36,17 @@ struct Stage {
     numbers: &'static [u32],
     // Each of them must be given; in stages of few calls only 0 must.
     all: bool,
-    // The lines that must each be told with 1.
+    // The lines that must each be told with 1, and those with 6.
     lines: Range<usize>,
+    loud: Range<usize>,
     // There are no more calls than these.
     once: bool,
 }
 
 // What most stages have in common.
-const EACH: Stage = Stage { name: "", calls: 0, run: |_, _| unreachable!(), numbers: &[], all: true, lines: 0..0, once: false };
+const EACH: Stage = Stage { name: "", calls: 0, run: |_, _| unreachable!(), numbers: &[], all: true, lines: 0..0, loud: 0..0, once: false };
 
-const LONE: &[u32] = &[0, 2, 3, 4, 5, 6, 12];
+const LONE: &[u32] = &[0, 2, 3, 4, 5, 6, 12, 16];
 const CODER: &[u32] = &[0, 2, 3, 4, 5, 7, 8, 9, 11, 14];
 const DECODER: &[u32] = &[0, 2, 3, 4, 5, 6, 8, 9, 10, 11, 12, 13];
 const TABLE: &[u32] = &[0, 2, 15];
@@ -55,6 +58,8 @@ const STAGES: &[Stage] = &[
     Stage { name: "lone", calls: 40_000, run: |d, _| calls::lone_decode(d, None), numbers: LONE, ..EACH },
     Stage { name: "coder", calls: 40_000, run: |d, _| calls::encode(d, None), numbers: CODER, ..EACH },
     Stage { name: "decoder", calls: 40_000, run: |d, _| calls::decode(d, None), numbers: DECODER, ..EACH },
+    Stage { name: "lone-values", calls: 10_000, run: |d, _| calls::lone_values(d), numbers: &[6, 16], ..EACH },
+    Stage { name: "decoder-values", calls: 10_000, run: |d, _| calls::decode_values(d), numbers: &[6], ..EACH },
     Stage { name: "lone-long", calls: 100, run: |d, _| calls::lone_decode(d, Some(4096)), numbers: LONE, all: false, ..EACH },
     Stage { name: "coder-long", calls: 100, run: |d, _| calls::encode(d, Some(4096)), numbers: CODER, all: false, ..EACH },
     Stage { name: "decoder-long", calls: 60, run: |d, _| calls::decode(d, Some(4096)), numbers: DECODER, all: false, ..EACH },
@@ -65,10 +70,12 @@ const STAGES: &[Stage] = &[
     // As many tail sections as register bits: no frame is refused, so never by 12, 13 or 14.
     Stage { name: "taps-coder", calls: 10_000, run: |d, _| taps::encode(d), numbers: &[0], ..EACH },
     Stage { name: "taps-decoder", calls: 10_000, run: |d, _| taps::decode(d), numbers: &[0], ..EACH },
-    Stage { name: "sheet-cases", calls: CASES.len() as u64, run: sheets::case, numbers: SHEET, lines: 0..5, once: true, ..EACH },
+    Stage { name: "sheet-cases", calls: CASES.len() as u64, run: sheets::case, numbers: SHEET, lines: 0..5, loud: 2..5, once: true, ..EACH },
     Stage { name: "sheet", calls: 1_024, run: |d, i| sheets::valid(d, i as usize % 512 + 1), numbers: &[0], ..EACH },
     Stage { name: "sheet-lines", calls: 515, run: |d, i| sheets::faulty(d, i as usize % 515), numbers: &[1], lines: 1..516, ..EACH },
-    Stage { name: "sheet-damaged", calls: 33_000, run: sheets::damaged, numbers: SHEET, lines: 0..9, ..EACH },
+    Stage { name: "sheet-loud", calls: sheets::LOUD_SETS, run: sheets::loud_set, numbers: &[6], loud: 2..6, ..EACH },
+    Stage { name: "sheet-loud-lines", calls: sheets::LOUD_PLACES, run: sheets::loud_place, numbers: &[6], loud: 2..516, ..EACH },
+    Stage { name: "sheet-damaged", calls: 35_000, run: sheets::damaged, numbers: SHEET, lines: 0..9, loud: 2..9, ..EACH },
 ];
 
 fn usage() -> ! {
@@ -90,12 +97,13 @@ fn number(word: Option<String>) -> u64 {
 // Runs a stage and says whether all is well.
 fn run(s: &Stage, seed: u64, times: u64) -> bool {
     let calls = if s.once { s.calls } else { s.calls * times };
-    let (mut given, mut lines) = (vec![0u64; NUMBERS as usize + 1], vec![0u64; 1 << 10]);
+    let (mut given, mut lines, mut loud) = (vec![0u64; NUMBERS as usize + 1], vec![0u64; 1 << 10], vec![0u64; 1 << 10]);
     let (mut differing, mut told) = (0, Instant::now());
     for i in 0..calls {
         let answer = (s.run)(&mut Draw::for_call(seed, s.name, i), i);
         given[answer.number.min(NUMBERS) as usize] += 1;
         lines[answer.line.min(1023)] += (answer.number == 1) as u64;
+        loud[answer.line.min(1023)] += (answer.number == 6) as u64;
         if !answer.differences.is_empty() {
             differing += 1;
             if differing <= 3 {
@@ -109,7 +117,7 @@ fn run(s: &Stage, seed: u64, times: u64) -> bool {
     }
     let counts: Vec<String> = (0..given.len()).filter(|&n| given[n] > 0).map(|n| format!("{n}:{}", given[n])).collect();
     println!("{}: seed {seed}, {calls} calls, {differing} differ; numbers given {}", s.name, counts.join(" "));
-    all_given(s, &given) & all_told(s, &lines) & (differing == 0)
+    all_given(s, &given) & all_told(s.name, 1, &s.lines, &lines) & all_told(s.name, 6, &s.loud, &loud) & (differing == 0)
 }
 
 // The numbers given are those of the stage.
@@ -129,17 +137,18 @@ fn all_given(s: &Stage, given: &[u64]) -> bool {
     good
 }
 
-// The lines told with 1 are at least those of the stage.
-fn all_told(s: &Stage, lines: &[u64]) -> bool {
+// The lines told with a number are at least those of the stage; one that must tell none is not asked.
+fn all_told(stage: &str, number: u32, wanted: &Range<usize>, lines: &[u64]) -> bool {
+    if wanted.is_empty() {
+        return true;
+    }
     let told = |l: usize| format!("{l}:{}", lines[l]);
     let first: Vec<String> = (0..10).filter(|&l| lines[l] > 0).map(told).collect();
     let after = lines[10..].iter().filter(|&&n| n > 0).count();
-    if !first.is_empty() {
-        println!("{}: lines told with 1 {} and {after} more lines", s.name, first.join(" "));
-    }
-    let never: Vec<usize> = s.lines.clone().filter(|&l| lines[l] == 0).collect();
+    println!("{stage}: lines told with {number} {} and {after} more lines", first.join(" "));
+    let never: Vec<usize> = wanted.clone().filter(|&l| lines[l] == 0).collect();
     for line in &never {
-        println!("{}: 1 was never told with line {line}", s.name);
+        println!("{stage}: {number} was never told with line {line}");
     }
     never.is_empty()
 }

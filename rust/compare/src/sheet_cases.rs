@@ -1,4 +1,5 @@
-// Sheets with their answers written out. D1 to D11 number the sentences of document 01 that can be read in two ways; each says the reading.
+// Sheets with their answers written out. D1 to D11 number the sentences of document 01 that can be read in two ways; each says the reading. L are
+// the lines that document 02 asks for beside 6.
 use crate::sheet_faults::sized;
 use crate::sheets::{text, HEADER};
 
@@ -14,7 +15,9 @@ const TEXT_1: &str = "refused line\n1 1\n";
 const TEXT_2: &str = "refused line\n1 2\n";
 const TEXT_3: &str = "refused line\n1 3\n";
 const TEXT_4: &str = "refused line\n1 4\n";
-const VALUE: &str = "refused line\n6 0\n";
+const VALUE_2: &str = "refused line\n6 2\n";
+const VALUE_3: &str = "refused line\n6 3\n";
+const VALUE_4: &str = "refused line\n6 4\n";
 const PATTERN: &str = "refused line\n8 0\n";
 
 // The rows under the header.
@@ -29,12 +32,17 @@ fn p2(line: usize, other: &str) -> Vec<u8> {
     text(&lines)
 }
 
-// P2 with another field in a line.
+// P2 with other fields, each by its line.
+fn p2_fields(others: &[(usize, usize, &str)]) -> Vec<u8> {
+    let mut lines = [HEADER, R0, R1, R2].map(|line| line.split(' ').collect::<Vec<&str>>());
+    for &(line, field, word) in others {
+        lines[line - 1][field] = word;
+    }
+    text(&lines.map(|fields| fields.join(" ")))
+}
+
 fn p2_field(line: usize, field: usize, word: &str) -> Vec<u8> {
-    let fields = [HEADER, R0, R1, R2][line - 1];
-    let mut fields: Vec<&str> = fields.split(' ').collect();
-    fields[field] = word;
-    p2(line, &fields.join(" "))
+    p2_fields(&[(line, field, word)])
 }
 
 fn open(mut sheet: Vec<u8>) -> Vec<u8> {
@@ -90,8 +98,8 @@ pub const CASES: &[Case] = &[
     // D3: a faulty line anywhere comes before 6, and 6 before 8
     ("D3 a loud value above a faulty row", || rows(&["0 0 1024 5 - -", R1, "2 - x 7 3 4"]), TEXT_4),
     ("D3 a loud value below a faulty row", || rows(&["0 0 x 5 - -", R1, "2 - 1024 7 3 4"]), TEXT_2),
-    ("D3 no pattern, and a loud value", || p2(2, "0 1 1024 5 - -"), VALUE),
-    ("D3 no pattern, and a loud value in the last row", || rows(&["0 1 -3 5 - -", R1, "2 - 1 7 3 1024"]), VALUE),
+    ("D3 no pattern, and a loud value", || p2(2, "0 1 1024 5 - -"), VALUE_2),
+    ("D3 no pattern, and a loud value in the last row", || rows(&["0 1 -3 5 - -", R1, "2 - 1 7 3 1024"]), VALUE_4),
     ("D3 no pattern, and a faulty row", || rows(&["0 1 -3 5 - -", R1, "2 - 1 7 3 x"]), TEXT_4),
     ("D3 a loud value and no last line feed", || open(p2(2, "0 0 1024 5 - -")), TEXT_4),
     ("D3 two faulty rows", || rows(&[R0, "1 - 2 -4 1 x", "2 - x 7 3 4"]), TEXT_3),
@@ -101,16 +109,16 @@ pub const CASES: &[Case] = &[
     // D4: a number of five digits is no fault of the text, whatever its size; nothing is cut to 16 bits
     ("D4 sys 1023", || rows(&["0 0 1023 - - -", "1 - 0 0 0 0", "2 - 0 0 0 0"]), "at bit margin extrinsic\n0 1 1023 0\n"),
     ("D4 sys -1023", || rows(&["0 0 -1023 - - -", "1 - 0 0 0 0", "2 - 0 0 0 0"]), "at bit margin extrinsic\n0 0 -1023 0\n"),
-    ("D4 sys 1024", || p2_field(2, SYS, "1024"), VALUE),
-    ("D4 par -1024", || p2_field(2, PAR, "-1024"), VALUE),
-    ("D4 par2 1024", || p2_field(2, PAR2, "1024"), VALUE),
-    ("D4 sys2 1024 of the first tail row", || p2_field(3, SYS2, "1024"), VALUE),
-    ("D4 par2 -1024 of the last tail row", || p2_field(4, PAR2, "-1024"), VALUE),
-    ("D4 sys 99999", || p2_field(2, SYS, "99999"), VALUE),
-    ("D4 sys -99999", || p2_field(2, SYS, "-99999"), VALUE),
-    ("D4 sys 65537", || p2_field(2, SYS, "65537"), VALUE),
-    ("D4 sys -65539", || p2_field(2, SYS, "-65539"), VALUE),
-    ("D4 sys 65536 of a tail", || p2_field(4, SYS, "65536"), VALUE),
+    ("D4 sys 1024", || p2_field(2, SYS, "1024"), VALUE_2),
+    ("D4 par -1024", || p2_field(2, PAR, "-1024"), VALUE_2),
+    ("D4 par2 1024", || p2_field(2, PAR2, "1024"), VALUE_2),
+    ("D4 sys2 1024 of the first tail row", || p2_field(3, SYS2, "1024"), VALUE_3),
+    ("D4 par2 -1024 of the last tail row", || p2_field(4, PAR2, "-1024"), VALUE_4),
+    ("D4 sys 99999", || p2_field(2, SYS, "99999"), VALUE_2),
+    ("D4 sys -99999", || p2_field(2, SYS, "-99999"), VALUE_2),
+    ("D4 sys 65537", || p2_field(2, SYS, "65537"), VALUE_2),
+    ("D4 sys -65539", || p2_field(2, SYS, "-65539"), VALUE_2),
+    ("D4 sys 65536 of a tail", || p2_field(4, SYS, "65536"), VALUE_4),
     ("D4 sys 100000", || p2_field(2, SYS, "100000"), TEXT_2),
     ("D4 sys -100000", || p2_field(2, SYS, "-100000"), TEXT_2),
     ("D4 sys 4294967293", || p2_field(2, SYS, "4294967293"), TEXT_2),
@@ -123,6 +131,34 @@ pub const CASES: &[Case] = &[
     ("D4 at 65536 in the first row", || p2_field(2, AT, "65536"), TEXT_2),
     ("D4 at 0 in the second row", || p2_field(3, AT, "0"), TEXT_3),
     ("D4 at 1 in the last row", || p2_field(4, AT, "1"), TEXT_4),
+
+    // L: 6 is told with the line of the first loud value in reading order, row by row and each from left to right; the frame's list has all of
+    // tail 1 before tail 2, which stand side by side on the sheet. 1 comes before it, and 8 after it, without a line
+    ("L sys 2000 in line 4 and par2 -2000 in line 3",
+        || rows(&["0 0 1 1 1 -", "1 1 1 1 -2000 -", "2 2 2000 1 1 -", "3 3 1 1 1 -", "4 - 1 1 1 1", "5 - 1 1 1 1"]), VALUE_3),
+    ("L sys of the first tail row", || p2_field(3, SYS, "1024"), VALUE_3),
+    ("L par of the first tail row", || p2_field(3, PAR, "-1024"), VALUE_3),
+    ("L par2 of the first tail row", || p2_field(3, PAR2, "1024"), VALUE_3),
+    ("L sys2 of the first tail row", || p2_field(3, SYS2, "-1024"), VALUE_3),
+    ("L sys of the last tail row", || p2_field(4, SYS, "-1024"), VALUE_4),
+    ("L par of the last tail row", || p2_field(4, PAR, "1024"), VALUE_4),
+    ("L par2 of the last tail row", || p2_field(4, PAR2, "-1024"), VALUE_4),
+    ("L sys2 of the last tail row", || p2_field(4, SYS2, "1024"), VALUE_4),
+    ("L sys2 of the first tail row and sys of the last", || p2_fields(&[(3, SYS2, "1024"), (4, SYS, "1024")]), VALUE_3),
+    ("L sys2 of the first tail row and par of the last", || p2_fields(&[(3, SYS2, "1024"), (4, PAR, "1024")]), VALUE_3),
+    ("L par2 of the first tail row and sys of the last", || p2_fields(&[(3, PAR2, "1024"), (4, SYS, "1024")]), VALUE_3),
+    ("L par2 of the first tail row and par of the last", || p2_fields(&[(3, PAR2, "1024"), (4, PAR, "1024")]), VALUE_3),
+    ("L sys of the first tail row and sys2 of the last", || p2_fields(&[(3, SYS, "1024"), (4, SYS2, "1024")]), VALUE_3),
+    ("L par of the first tail row and par2 of the last", || p2_fields(&[(3, PAR, "1024"), (4, PAR2, "1024")]), VALUE_3),
+    ("L sys2 and sys of the last tail row", || p2_fields(&[(4, SYS2, "1024"), (4, SYS, "1024")]), VALUE_4),
+    ("L par2 of the message row and both tail rows", || p2_fields(&[(2, PAR2, "1024"), (3, SYS2, "1024"), (4, SYS, "1024")]), VALUE_2),
+    ("L every value", || rows(&["0 0 1024 1024 1024 -", "1 - 1024 1024 1024 1024", "2 - 1024 1024 1024 1024"]), VALUE_2),
+    ("L the last value under 512 positions", || [nothing_sent(512).strip_suffix(b"0\n").unwrap(), b"1024\n"].concat(), "refused line\n6 515\n"),
+    ("L no pattern, and a loud value in line 6",
+        || rows(&["0 0 1 1 1 -", "1 0 1 1 1 -", "2 0 1 1 1 -", "3 - 1 1 1 1", "4 - 1 1 1 1024"]), "refused line\n6 6\n"),
+    ("L a loud value in line 2, and a faulty last row", || p2_fields(&[(2, SYS, "1024"), (4, AT, "3")]), TEXT_4),
+    ("L loud values in lines 3 and 4, and a faulty first row", || p2_fields(&[(2, AT, "1"), (3, SYS2, "1024"), (4, SYS, "1024")]), TEXT_2),
+    ("L no pattern alone", || p2_field(2, TO, "2"), PATTERN),
 
     // D5: `-` where a number must stand is a fault, and so is a number where `-` must
     ("D5 sys2 0 of a message row", || p2_field(2, SYS2, "0"), TEXT_2),
@@ -137,7 +173,7 @@ pub const CASES: &[Case] = &[
     ("D5 to 2 of the last tail row", || p2_field(4, TO, "2"), TEXT_4),
 
     // D6: a sign is no digit, and there is no plus sign
-    ("D6 -12345", || p2_field(2, SYS, "-12345"), VALUE),
+    ("D6 -12345", || p2_field(2, SYS, "-12345"), VALUE_2),
     ("D6 +1", || p2_field(2, SYS, "+1"), TEXT_2),
     ("D6 00", || p2_field(2, SYS, "00"), TEXT_2),
     ("D6 -00", || p2_field(2, SYS, "-00"), TEXT_2),
@@ -179,7 +215,7 @@ pub const CASES: &[Case] = &[
     ("D7 a byte order mark", || [&b"\xef\xbb\xbf"[..], &rows(&[R0, R1, R2])].concat(), TEXT_1),
 
     // D8: the whole input counts
-    ("D8 16,384 bytes", || sized(16_384), VALUE),
+    ("D8 16,384 bytes", || sized(16_384), VALUE_2),
     ("D8 16,385 bytes", || sized(16_385), TEXT_0),
     ("D8 16,384 bytes under another header", || [b"A", &sized(16_384)[1..]].concat(), TEXT_1),
     ("D8 16,384 bytes without the last line feed", || open(sized(16_385)), "refused line\n1 515\n"),

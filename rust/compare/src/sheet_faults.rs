@@ -31,6 +31,8 @@ pub const KINDS: &[Fault] = &[
     spelling,
     fields,
     spaces,
+    loud_values,
+    loud_tails,
     loud_and_pattern,
     loud_and_line,
     pattern_and_line,
@@ -81,7 +83,7 @@ fn with_fields(line: &mut Vec<u8>, edit: impl FnOnce(&mut Vec<Vec<u8>>)) {
 }
 
 // Puts a word in a field that is there.
-fn put(line: &mut Vec<u8>, field: usize, word: &str) {
+pub fn put(line: &mut Vec<u8>, field: usize, word: &str) {
     with_fields(line, |fields| {
         if let Some(f) = fields.get_mut(field) {
             *f = word.into();
@@ -296,13 +298,16 @@ fn pattern(d: &mut Draw, sheet: &mut Vec<u8>) {
 }
 
 // A value outside its limits; cut to 16 bits it may be inside.
+pub fn loud_value(d: &mut Draw) -> String {
+    let small = d.within(-1023, 1023);
+    d.of(&[1024, -1024, 65_536, 65_536 + small, -65_536 + small, 99_999, -99_999, 32_768, -32_768, 12_345]).to_string()
+}
+
 fn loud(d: &mut Draw, sheet: &mut Vec<u8>) {
     with_lines(sheet, |lines| {
         let line = d.size(1, lines.len()).min(lines.len() - 1);
         let last = if line + 2 < lines.len() { 4 } else { 5 };
-        let small = d.within(-1023, 1023);
-        let value = d.of(&[1024, -1024, 65_536, 65_536 + small, -65_536 + small, 99_999, -99_999, 32_768, -32_768, 12_345]);
-        put(&mut lines[line], d.size(2, last), &value.to_string());
+        put(&mut lines[line], d.size(2, last), &loud_value(d));
     });
 }
 
@@ -355,7 +360,23 @@ fn spaces(d: &mut Draw, sheet: &mut Vec<u8>) {
     });
 }
 
-// ---- two faults
+// ---- two faults and more
+
+// In any order of rows and fields.
+fn loud_values(d: &mut Draw, sheet: &mut Vec<u8>) {
+    for _ in 0..d.size(2, 6) {
+        loud(d, sheet);
+    }
+}
+
+// One in each of the last two rows: of tail 1 or of tail 2.
+fn loud_tails(d: &mut Draw, sheet: &mut Vec<u8>) {
+    with_lines(sheet, |lines| {
+        for line in lines.iter_mut().rev().take(2) {
+            put(line, d.size(2, 5), &loud_value(d));
+        }
+    });
+}
 
 fn loud_and_pattern(d: &mut Draw, sheet: &mut Vec<u8>) {
     pattern(d, sheet);

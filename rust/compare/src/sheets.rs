@@ -97,15 +97,20 @@ fn by_plain(d: &mut Draw, sheet: &[u8]) -> Answer {
     compared(d, sheet, asked.as_bytes())
 }
 
-// A case whose answer is written out; the plain side is held to it too.
-pub fn case(d: &mut Draw, index: u64) -> Answer {
-    let (name, sheet, asked) = CASES[index as usize % CASES.len()];
-    let sheet = sheet();
-    let mut answer = compared(d, &sheet, asked.as_bytes());
-    let plain = sheet::printed(&sheet::decode(&sheet));
+// An answer that is known; the plain side is held to it too.
+fn known(d: &mut Draw, sheet: &[u8], asked: &str) -> Answer {
+    let mut answer = compared(d, sheet, asked.as_bytes());
+    let plain = sheet::printed(&sheet::decode(sheet));
     if plain != asked {
         answer.differences.push(format!("plain side: {plain:?}, asked {asked:?}"));
     }
+    answer
+}
+
+// A case whose answer is written out.
+pub fn case(d: &mut Draw, index: u64) -> Answer {
+    let (name, sheet, asked) = CASES[index as usize % CASES.len()];
+    let mut answer = known(d, &sheet(), asked);
     if !answer.differences.is_empty() {
         answer.differences.insert(0, format!("case \"{name}\""));
     }
@@ -115,6 +120,55 @@ pub fn case(d: &mut Draw, index: u64) -> Answer {
 pub fn valid(d: &mut Draw, bits: usize) -> Answer {
     let sheet = text(&lines(d, bits));
     by_plain(d, &sheet)
+}
+
+// The values of a sheet, in reading order: three in a message row, four in a tail row.
+const fn values(bits: usize) -> usize {
+    3 * bits + 8
+}
+
+// Of a value in reading order its line, counted from 0, and its field.
+fn place(bits: usize, value: usize) -> (usize, usize) {
+    match value.checked_sub(3 * bits) {
+        None => (1 + value / 3, 2 + value % 3),
+        Some(of_tails) => (1 + bits + of_tails / 4, 2 + of_tails % 4),
+    }
+}
+
+// A sheet that is right but for these loud values, and for its pattern in one of four: refused by 6 with the line of the first.
+fn loud(d: &mut Draw, bits: usize, loud_ones: &[usize]) -> Answer {
+    let mut lines: Vec<Vec<u8>> = lines(d, bits).into_iter().map(String::into_bytes).collect();
+    for &value in loud_ones {
+        let (line, field) = place(bits, value);
+        sheet_faults::put(&mut lines[line], field, &sheet_faults::loud_value(d));
+    }
+    if d.chance(4) {
+        sheet_faults::put(&mut lines[1], 1, &bits.to_string());
+    }
+    let first = *loud_ones.iter().min().expect("a loud value");
+    known(d, &text(&lines), &format!("refused line\n6 {}\n", place(bits, first).0 + 1))
+}
+
+const FEW_BITS: usize = 2;
+pub const LOUD_SETS: u64 = (1 << values(FEW_BITS)) - 1;
+
+// Each set of values of a small sheet but the empty one.
+pub fn loud_set(d: &mut Draw, index: u64) -> Answer {
+    let set = index % LOUD_SETS + 1;
+    let loud_ones: Vec<usize> = (0..values(FEW_BITS)).filter(|value| set >> value & 1 == 1).collect();
+    loud(d, FEW_BITS, &loud_ones)
+}
+
+pub const LOUD_PLACES: u64 = values(512) as u64;
+
+// Each value of a sheet of the largest size, and often others after it.
+pub fn loud_place(d: &mut Draw, index: u64) -> Answer {
+    let first = (index % LOUD_PLACES) as usize;
+    let mut loud_ones = vec![first];
+    for _ in 0..d.of(&[0, 1, 2, 9]) {
+        loud_ones.push(d.size(first, values(512) - 1));
+    }
+    loud(d, 512, &loud_ones)
 }
 
 // A fault in a line, counted from 0, of a sheet of the largest size, and often in a later line too.

@@ -1,6 +1,6 @@
 //! The frame decoder.
 use crate::lone::{extrinsic, pass, Outcome};
-use crate::{rules, Frame};
+use crate::{rules, Frame, Refused};
 
 #[derive(Clone, Debug)]
 pub struct Call {
@@ -73,9 +73,10 @@ fn soft(f: &Frame, channel: &[i16], handed: &[i16]) -> Result<Vec<(i64, i64)>, u
         .collect()
 }
 
-pub fn decode(call: &Call, lent: Lent) -> Result<Lists, u32> {
+pub fn decode(call: &Call, lent: Lent) -> Result<Lists, Refused> {
     let f = &call.frame;
     let k = f.bits as u128;
+    let loud = rules::outside(&call.received, rules::CHANNEL_LIMIT);
     let applying = [
         (2, rules::shape(&f.table)),
         (3, rules::branch(&f.table)),
@@ -91,14 +92,16 @@ pub fn decode(call: &Call, lent: Lent) -> Result<Lists, u32> {
                 (lent.work, (k + f.tail as u128 + 1).saturating_mul(f.table.states as u128)),
             ]) || rules::frame_list(f, call.received.len()),
         ),
-        (6, rules::value(&call.received, rules::CHANNEL_LIMIT)),
+        (6, !loud.is_empty()),
         (8, rules::pattern(f)),
         (9, rules::mask(f)),
         (10, rules::iterations(call.iterations)),
         (11, rules::coder(f)),
     ];
-    if let Some(number) = rules::lowest(&applying) {
-        return Err(number);
+    match rules::lowest(&applying) {
+        Some(6) => return Err(Refused { number: 6, index: loud[0] }),
+        Some(number) => return Err(number.into()),
+        None => {}
     }
 
     let r = sorted_out(f, &call.received);

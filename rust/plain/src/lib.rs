@@ -1,5 +1,5 @@
-//! The receiver again, written plainly from document 01 and request 1 of document 02, with code and structure of its own: to compare with, not to
-//! use. Where a sentence about sheets is unclear, it is read as docs/DECISIONS.md says.
+//! The receiver again, written plainly from document 01 and requests 1 and 2 of document 02, with code and structure of its own: to compare with,
+//! not to use. Where a sentence about sheets is unclear, it is read as docs/DECISIONS.md says.
 //!
 //! Refusals are rule by rule: every number that applies is gathered, and the lowest is given. Sizes are compared as 128-bit numbers, so no
 //! product wraps. Metrics are 64-bit, and an unreached state has none.
@@ -61,6 +61,20 @@ impl Frame {
             ones += (m & 1) + (m >> 1 & 1) + (m >> 2 & 1);
         }
         ones + 4 * self.tail
+    }
+}
+
+/// Why a decoder refuses a call: the number, and the index of the first value out of range in its list for 6 and 16; else 0.
+#[derive(Clone, Copy, Debug, PartialEq, Eq)]
+pub struct Refused {
+    pub number: u32,
+    pub index: usize,
+}
+
+// A number that tells no index.
+impl From<u32> for Refused {
+    fn from(number: u32) -> Refused {
+        Refused { number, index: 0 }
     }
 }
 

@@ -1,5 +1,5 @@
 //! The lone decoder.
-use crate::{rules, Table};
+use crate::{rules, Refused, Table};
 
 #[derive(Clone, Debug)]
 pub struct Call {
@@ -119,9 +119,11 @@ pub fn lists(call: &Call, outcomes: &[Outcome]) -> Lists {
     l
 }
 
-pub fn decode(call: &Call, lent: Lent) -> Result<Lists, u32> {
+pub fn decode(call: &Call, lent: Lent) -> Result<Lists, Refused> {
     let t = &call.table;
     let n = call.sections as u128;
+    let loud = rules::outside(&call.channel, rules::CHANNEL_LIMIT);
+    let spoiled = rules::outside(&call.apriori, rules::APRIORI_LIMIT);
     let applying = [
         (2, rules::shape(t)),
         (3, rules::branch(t)),
@@ -138,10 +140,14 @@ pub fn decode(call: &Call, lent: Lent) -> Result<Lists, u32> {
                 (lent.work, (n + 1) * t.states as u128),
             ]),
         ),
-        (6, rules::value(&call.channel, rules::CHANNEL_LIMIT) || rules::value(&call.apriori, rules::APRIORI_LIMIT)),
+        (6, !loud.is_empty()),
+        (16, !spoiled.is_empty()),
     ];
-    if let Some(number) = rules::lowest(&applying) {
-        return Err(number);
+    match rules::lowest(&applying) {
+        Some(6) => return Err(Refused { number: 6, index: loud[0] }),
+        Some(16) => return Err(Refused { number: 16, index: spoiled[0] }),
+        Some(number) => return Err(number.into()),
+        None => {}
     }
     let outcomes = pass(t, call.sections, &call.channel, &call.apriori).ok_or(12u32)?;
     Ok(lists(call, &outcomes))

@@ -6,8 +6,8 @@ pub const CHANNEL_LIMIT: i32 = 1023;
 pub const APRIORI_LIMIT: i32 = 8191;
 pub const MOST_SECTIONS: u128 = 4096;
 
-// The numbers from the lowest on: 15 stands after 2 and before 3.
-const ORDER: [u32; 15] = [1, 2, 15, 3, 4, 5, 6, 7, 8, 9, 10, 11, 12, 13, 14];
+// The numbers from the lowest on: 15 stands straight after 2, and 16 straight after 6.
+const ORDER: [u32; 16] = [1, 2, 15, 3, 4, 5, 6, 16, 7, 8, 9, 10, 11, 12, 13, 14];
 
 pub fn lowest(applying: &[(u32, bool)]) -> Option<u32> {
     let place = |number: &u32| ORDER.iter().position(|n| n == number).expect("a number of the order");
@@ -77,9 +77,10 @@ pub fn frame_list(f: &Frame, length: usize) -> bool {
     !mask(f) && !sizes(f) && length != f.length()
 }
 
-// 6
-pub fn value(values: &[i16], limit: i32) -> bool {
-    values.iter().any(|&v| (v as i32) < -limit || v as i32 > limit)
+// 6 and 16: the indices of all values that are out of range
+pub fn outside(values: &[i16], limit: i32) -> Vec<usize> {
+    let outside = |v: i16| (v as i32) < -limit || v as i32 > limit;
+    values.iter().enumerate().filter(|(_, &v)| outside(v)).map(|(i, _)| i).collect()
 }
 
 // 7

@@ -8,7 +8,7 @@ const LARGEST: i64 = 99_999;
 const TAIL: usize = 2;
 const ITERATIONS: usize = 8;
 
-/// A refusal as it is printed.
+/// A refusal as it is printed. The line is 0 where none is told.
 #[derive(Clone, Copy, Debug, PartialEq, Eq)]
 pub struct Refused {
     pub number: u32,
@@ -112,22 +112,38 @@ fn received(rows: &Rows) -> Vec<i64> {
     messages.chain(first).chain(second).collect()
 }
 
+// The lines of all values out of range, in reading order: line by line from the header on, which is line 1, and each from left to right. The
+// sheet has passed `rows`, so after its first two fields a row has only values and `-`.
+fn loud_lines(sheet: &[u8]) -> Vec<usize> {
+    let limit = rules::CHANNEL_LIMIT as i64;
+    let text = std::str::from_utf8(sheet).expect("a sheet of text");
+    let mut lines = Vec::new();
+    for (i, line) in text.lines().enumerate().skip(1) {
+        for field in line.split(' ').skip(2) {
+            if number(field).is_some_and(|value| value < -limit || value > limit) {
+                lines.push(i + 1);
+            }
+        }
+    }
+    lines
+}
+
 /// What the last pass 2 says of each message position, or the refusal.
 pub fn decode(sheet: &[u8]) -> Result<Lists, Refused> {
     let rows = rows(sheet).map_err(|line| Refused { number: 1, line })?;
+    let loud = loud_lines(sheet);
     let bits = rows.messages.len();
     let pattern = rows.messages.iter().map(|r| r.to as u32).collect();
     let frame = Frame { table: house::table(), bits, tail: TAIL, pattern, masks: vec![7] };
-    let values = received(&rows);
-    let limit = rules::CHANNEL_LIMIT as i64;
-    let applying = [(6, values.iter().any(|&v| v < -limit || v > limit)), (8, rules::pattern(&frame))];
-    if let Some(number) = rules::lowest(&applying) {
-        return Err(Refused { number, line: 0 });
+    match rules::lowest(&[(6, !loud.is_empty()), (8, rules::pattern(&frame))]) {
+        Some(6) => return Err(Refused { number: 6, line: loud[0] }),
+        Some(number) => return Err(Refused { number, line: 0 }),
+        None => {}
     }
-    let received = values.iter().map(|&v| v as i16).collect();
+    let received = received(&rows).iter().map(|&v| i16::try_from(v).unwrap()).collect();
     let lent = Lent { bits, margins: bits, extrinsics: bits, work: (bits + TAIL + 1) * 4 };
     let call = frame_decoder::Call { frame, received, iterations: ITERATIONS };
-    frame_decoder::decode(&call, lent).map_err(|number| Refused { number, line: 0 })
+    frame_decoder::decode(&call, lent).map_err(|refused| Refused { number: refused.number, line: 0 })
 }
 
 /// What is printed.

@@ -76,7 +76,8 @@ impl Said {
 #[inline(never)]
 fn by_library(code: &Code, pattern: &[u32], frame: &[i16], said: &mut Said, work: &mut [i32]) -> u32 {
     let Said { bits, margins, extrinsics } = said;
-    raw::decode(code.states, 2, &code.next, &code.words, K, T, pattern, &[7], frame, ITERATIONS, bits, margins, extrinsics, work)
+    let mut index = 0;
+    raw::decode(code.states, 2, &code.next, &code.words, K, T, pattern, &[7], frame, ITERATIONS, bits, margins, extrinsics, work, &mut index)
 }
 
 #[inline(never)]

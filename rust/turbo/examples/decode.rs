@@ -1,4 +1,4 @@
-//! Codes a message with the house code, disturbs the frame and decodes it; then shows how a refusal reads.
+//! Codes a message with the house code, disturbs the frame and decodes it; then shows how refusals read.
 //!
 //!     rt staticlib capi && cd rust && cargo run --release --example decode
 use turbo::{decode, encode, Frame, Refusal, Table};
@@ -16,6 +16,12 @@ fn main() -> Result<(), Refusal> {
         println!("{at} {} {} {}", decoded.bits[at], decoded.margins[at], decoded.extrinsics[at]);
     }
     assert_eq!(decoded.bits, message);
+
+    received[5] = 2000;
+    match decode(&frame, &received, 8) {
+        Err(refusal @ Refusal::Value { index: 5 }) => println!("one value too loud: {refusal}"),
+        other => panic!("one value too loud: {other:?}"),
+    }
 
     received.pop();
     match decode(&frame, &received, 8) {

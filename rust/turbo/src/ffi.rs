@@ -1,4 +1,5 @@
-// The functions of crates/capi/src/lib.rt. Nothing checks these declarations against it: a slice is a pointer and a length.
+// The functions of crates/capi/src/lib.rt. Nothing checks these declarations against it: a slice is a pointer and a length, and `index`
+// a pointer alone.
 #[link(name = "capi", kind = "static")]
 extern "C" {
     pub fn turbo_lone_decode(
@@ -21,6 +22,7 @@ extern "C" {
         extrinsics_len: usize,
         work: *mut i32,
         work_len: usize,
+        index: *mut u64,
     ) -> u32;
 
     pub fn turbo_encode(
@@ -66,6 +68,7 @@ extern "C" {
         extrinsics_len: usize,
         work: *mut i32,
         work_len: usize,
+        index: *mut u64,
     ) -> u32;
 
     pub fn turbo_sheet(sheet: *const u8, sheet_len: usize, answer: *mut u8, answer_len: usize) -> usize;

@@ -45,7 +45,7 @@ impl Table {
         let long = if memory > MOST_MEMORY { 0 } else { 2 << memory };
         let mut next = vec![0; long];
         let mut words = vec![0; long];
-        told(raw::taps_table(memory, feedback, parity, &mut next, &mut words))?;
+        told(raw::taps_table(memory, feedback, parity, &mut next, &mut words), 0)?;
         Ok(Table { outputs: 2, next, words })
     }
 
@@ -107,10 +107,11 @@ pub enum Position {
     Forced(u8),
 }
 
-fn told(number: u32) -> Result<(), Refusal> {
+// The index is that beside 6 and 16; calls that give neither have none.
+fn told(number: u32, index: u64) -> Result<(), Refusal> {
     match number {
         0 => Ok(()),
-        n => Err(Refusal::from_number(n).expect("a number of the table")),
+        n => Err(Refusal::from_reply(n, index).expect("a number of the table")),
     }
 }
 
@@ -126,7 +127,7 @@ fn working_list(sections: usize, states: usize) -> Vec<i32> {
 pub fn polynomial_pattern(bits: usize, f1: usize, f2: usize) -> Result<Vec<u32>, Refusal> {
     // More bits than the limit are refused before the list is measured.
     let mut pattern = vec![0; if bits > MOST_SECTIONS { 0 } else { bits }];
-    told(raw::polynomial_pattern(bits, f1, f2, &mut pattern))?;
+    told(raw::polynomial_pattern(bits, f1, f2, &mut pattern), 0)?;
     Ok(pattern)
 }
 
@@ -136,7 +137,7 @@ pub fn encode(frame: &Frame, message: &[u8]) -> Result<Vec<u8>, Refusal> {
     // A tail out of limits is refused before the frame's list is measured.
     let long = if frame.sections() > MOST_SECTIONS { 0 } else { frame.frame_len() };
     let mut sent = vec![0; long];
-    told(raw::encode(
+    let number = raw::encode(
         t.states(),
         t.outputs,
         &t.next,
@@ -147,17 +148,20 @@ pub fn encode(frame: &Frame, message: &[u8]) -> Result<Vec<u8>, Refusal> {
         &frame.pattern,
         &frame.masks,
         &mut sent,
-    ))?;
+    );
+    told(number, 0)?;
     Ok(sent)
 }
 
-/// Bits, margins and extrinsics after so many iterations, from the channel values of a frame.
+/// Bits, margins and extrinsics after so many iterations, from the channel values of a frame. The index that [`Refusal::Value`] tells is one of
+/// `received`.
 pub fn decode(frame: &Frame, received: &[i16], iterations: usize) -> Result<Decoded, Refusal> {
     let t = &frame.table;
     let k = frame.bits();
     let mut out = Decoded { bits: vec![0; k], margins: vec![0; k], extrinsics: vec![0; k] };
     let mut work = working_list(frame.sections(), t.states());
-    told(raw::decode(
+    let mut index = 0;
+    let number = raw::decode(
         t.states(),
         t.outputs,
         &t.next,
@@ -172,18 +176,22 @@ pub fn decode(frame: &Frame, received: &[i16], iterations: usize) -> Result<Deco
         &mut out.margins,
         &mut out.extrinsics,
         &mut work,
-    ))?;
+        &mut index,
+    );
+    told(number, index)?;
     Ok(out)
 }
 
-/// One pass over a table. There are as many sections as a-priori values, and `outputs` channel values a section.
+/// One pass over a table. There are as many sections as a-priori values, and `outputs` channel values a section. The index that
+/// [`Refusal::Value`] tells is one of `channel`, and that of [`Refusal::Apriori`] one of `apriori`.
 pub fn lone_decode(table: &Table, channel: &[i16], apriori: &[i16]) -> Result<Vec<Position>, Refusal> {
     let n = apriori.len();
     let mut marks = vec![0; n];
     let mut margins = vec![0; n];
     let mut extrinsics = vec![0; n];
     let mut work = working_list(n, table.states());
-    told(raw::lone_decode(
+    let mut index = 0;
+    let number = raw::lone_decode(
         table.states(),
         table.outputs,
         &table.next,
@@ -195,7 +203,9 @@ pub fn lone_decode(table: &Table, channel: &[i16], apriori: &[i16]) -> Result<Ve
         &mut margins,
         &mut extrinsics,
         &mut work,
-    ))?;
+        &mut index,
+    );
+    told(number, index)?;
     Ok((0..n)
         .map(|i| match marks[i] {
             2 => Position::Free { margin: margins[i], extrinsic: extrinsics[i] },

@@ -1,6 +1,9 @@
 //! The library's calls on the caller's own lists, with the number returned: 0 for done, else that of the refusal; [`sheet`] returns a length
 //! instead. include/turbo.h says what each list is. They are safe for any arguments: slices have their lengths, and those that are written
 //! overlap nothing.
+//!
+//! Both decoders always write `index`: with 6 and 16 it is that of the first value out of range in its list, counted from 0, and else 0.
+//! [`Refusal::from_reply`](crate::Refusal::from_reply) makes an error of the number and the index.
 #![allow(clippy::too_many_arguments)]
 
 use crate::ffi;
@@ -17,8 +20,9 @@ pub fn lone_decode(
     margins: &mut [i32],
     extrinsics: &mut [i32],
     work: &mut [i32],
+    index: &mut u64,
 ) -> u32 {
-    // SAFETY: each pointer is that of a slice with its own length, and the function has no `requires`.
+    // SAFETY: each pointer is that of a slice with its own length, or of one number that is lent, and the function has no `requires`.
     unsafe {
         ffi::turbo_lone_decode(
             states,
@@ -40,6 +44,7 @@ pub fn lone_decode(
             extrinsics.len(),
             work.as_mut_ptr(),
             work.len(),
+            index,
         )
     }
 }
@@ -94,6 +99,7 @@ pub fn decode(
     margins: &mut [i32],
     extrinsics: &mut [i32],
     work: &mut [i32],
+    index: &mut u64,
 ) -> u32 {
     // SAFETY: as above.
     unsafe {
@@ -121,6 +127,7 @@ pub fn decode(
             extrinsics.len(),
             work.as_mut_ptr(),
             work.len(),
+            index,
         )
     }
 }

@@ -1,63 +1,89 @@
 use std::fmt;
 
-/// Why a call was refused, by the numbers of document 01's table and of document 02. Where several apply, a call is refused by the lowest, 15
-/// standing between 2 and 3; the order of this type is that of the numbers alone.
+/// Why a call was refused, by the numbers of document 01's table and of document 02. Of the refusals that apply a call tells the least: they
+/// stand here in their order, which is that of their numbers but for 15 after 2 and 16 after 6, and of two values the one with the lower index
+/// comes first.
 #[derive(Clone, Copy, Debug, PartialEq, Eq, Hash, PartialOrd, Ord)]
-#[repr(u32)]
 pub enum Refusal {
-    Text = 1,
-    Shape = 2,
-    Branch = 3,
-    Length = 4,
-    Lists = 5,
-    Value = 6,
-    Bit = 7,
-    Pattern = 8,
-    Mask = 9,
-    Iterations = 10,
-    Coder = 11,
-    NoPath = 12,
-    ForcedPosition = 13,
-    NoTail = 14,
-    Polynomial = 15,
+    Text,
+    Shape,
+    Polynomial,
+    Branch,
+    Length,
+    Lists,
+    /// A channel value is out of range: the first such one stands at this index of its list, counted from 0.
+    Value { index: usize },
+    /// The same of an a-priori value.
+    Apriori { index: usize },
+    Bit,
+    Pattern,
+    Mask,
+    Iterations,
+    Coder,
+    NoPath,
+    ForcedPosition,
+    NoTail,
 }
 
 impl Refusal {
-    pub const ALL: [Refusal; 15] = [
-        Refusal::Text,
-        Refusal::Shape,
-        Refusal::Branch,
-        Refusal::Length,
-        Refusal::Lists,
-        Refusal::Value,
-        Refusal::Bit,
-        Refusal::Pattern,
-        Refusal::Mask,
-        Refusal::Iterations,
-        Refusal::Coder,
-        Refusal::NoPath,
-        Refusal::ForcedPosition,
-        Refusal::NoTail,
-        Refusal::Polynomial,
-    ];
-
     pub fn number(self) -> u32 {
-        self as u32
+        match self {
+            Refusal::Text => 1,
+            Refusal::Shape => 2,
+            Refusal::Polynomial => 15,
+            Refusal::Branch => 3,
+            Refusal::Length => 4,
+            Refusal::Lists => 5,
+            Refusal::Value { .. } => 6,
+            Refusal::Apriori { .. } => 16,
+            Refusal::Bit => 7,
+            Refusal::Pattern => 8,
+            Refusal::Mask => 9,
+            Refusal::Iterations => 10,
+            Refusal::Coder => 11,
+            Refusal::NoPath => 12,
+            Refusal::ForcedPosition => 13,
+            Refusal::NoTail => 14,
+        }
     }
 
-    pub fn from_number(number: u32) -> Option<Refusal> {
-        Refusal::ALL.into_iter().find(|r| r.number() == number)
+    /// The refusal that a call of [`raw`](crate::raw) tells by its number and the index beside it; for a call without an index any will do, since
+    /// it counts with 6 and 16 alone. There is none for 0, which is no refusal, and above 16.
+    pub fn from_reply(number: u32, index: u64) -> Option<Refusal> {
+        // An index of a list that was lent is a `usize`.
+        let index = index as usize;
+        Some(match number {
+            1 => Refusal::Text,
+            2 => Refusal::Shape,
+            15 => Refusal::Polynomial,
+            3 => Refusal::Branch,
+            4 => Refusal::Length,
+            5 => Refusal::Lists,
+            6 => Refusal::Value { index },
+            16 => Refusal::Apriori { index },
+            7 => Refusal::Bit,
+            8 => Refusal::Pattern,
+            9 => Refusal::Mask,
+            10 => Refusal::Iterations,
+            11 => Refusal::Coder,
+            12 => Refusal::NoPath,
+            13 => Refusal::ForcedPosition,
+            14 => Refusal::NoTail,
+            _ => return None,
+        })
     }
 
     /// What to look at.
-    pub fn sentence(self) -> &'static str {
-        match self {
+    pub fn sentence(self) -> String {
+        let sentence = match self {
             Refusal::Text => "the sheet's text breaks a rule",
             Refusal::Shape => "the table must have 1 to 16 states, 1 to 4 outputs and two branches a state",
+            Refusal::Polynomial => "memory must be 1 to 4, both tap numbers below 2^(memory+1), the feedback number odd; f1 and f2 below K",
             Refusal::Branch => "a next state is not below the number of states, or a word not below 2^outputs",
             Refusal::Length => "sections must be 1 to 4096; message bits at least 1, tail sections 0 to 4, and both together at most 4096",
             Refusal::Lists => "a list is not of its exact length",
-            Refusal::Value => "a channel value is outside -1023..1023, or an a-priori value outside -8191..8191",
+            Refusal::Value { index } => return format!("the channel value at index {index}, counted from 0, is outside -1023..1023"),
+            Refusal::Apriori { index } => return format!("the a-priori value at index {index}, counted from 0, is outside -8191..8191"),
             Refusal::Bit => "a message bit is neither 0 nor 1",
             Refusal::Pattern => "the pattern must have each of 0..K-1 exactly once",
             Refusal::Mask => "there must be 1 to 16 masks, each at most 7",
@@ -66,8 +92,8 @@ impl Refusal {
             Refusal::NoPath => "no path of that length leads from state 0 to state 0",
             Refusal::ForcedPosition => "every path has the same bit at some message position, so it has no margin",
             Refusal::NoTail => "no inputs of the tail lead a coder back to state 0",
-            Refusal::Polynomial => "memory must be 1 to 4, both tap numbers below 2^(memory+1), the feedback number odd; f1 and f2 below K",
-        }
+        };
+        sentence.to_string()
     }
 }
 

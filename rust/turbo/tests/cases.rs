@@ -35,7 +35,7 @@ fn p2_as_a_sheet() {
 fn refused_sheets() {
     assert_eq!(sheet(b""), b"refused line\n1 0\n");
     assert_eq!(sheet(&P2[..P2.len() - 1]), b"refused line\n1 4\n");
-    assert_eq!(sheet(b"at to sys par par2 sys2\n0 0 1024 5 - -\n1 - 2 -4 1 -6\n2 - 1 7 3 4\n"), b"refused line\n6 0\n");
+    assert_eq!(sheet(b"at to sys par par2 sys2\n0 0 1024 5 - -\n1 - 2 -4 1 -6\n2 - 1 7 3 4\n"), b"refused line\n6 2\n");
     assert_eq!(sheet(b"at to sys par par2 sys2\n0 1 -3 5 - -\n1 - 2 -4 1 -6\n2 - 1 7 3 4\n"), b"refused line\n8 0\n");
 }
 
@@ -76,7 +76,7 @@ fn p9_lengths() {
 fn limits() {
     let one = |v: i16| lone_decode(&Table::new(1, &[[(0, 0), (0, 1)]]), &[v], &[0]).map(|_| ());
     assert_eq!(one(1023), Ok(()));
-    assert_eq!(one(1024), Err(Refusal::Value));
+    assert_eq!(one(1024), Err(Refusal::Value { index: 0 }));
     let long = |n: usize| lone_decode(&two_states(), &vec![0; n], &vec![0; n]).map(|_| ());
     assert_eq!(long(4096), Ok(()));
     assert_eq!(long(4097), Err(Refusal::Length));
@@ -99,10 +99,9 @@ fn sizes_out_of_limits_are_refused_and_not_made() {
 
 #[test]
 fn refusals_have_the_numbers_of_the_table() {
-    for (i, r) in Refusal::ALL.into_iter().enumerate() {
-        assert_eq!(r.number() as usize, i + 1);
-        assert_eq!(Refusal::from_number(r.number()), Some(r));
+    for number in 1..=16 {
+        assert_eq!(Refusal::from_reply(number, 0).map(Refusal::number), Some(number));
     }
-    assert_eq!(Refusal::from_number(0), None);
-    assert_eq!(Refusal::from_number(16), None);
+    assert_eq!(Refusal::from_reply(0, 0), None);
+    assert_eq!(Refusal::from_reply(17, 0), None);
 }

@@ -65,7 +65,7 @@ module _ (c : DecodeCall) (l : DecodeLent) where
       (gives-then
       (gives-check (decodeListsFit c l) Lists refl)
       (gives-then
-      (gives-check (channelFits (c .received)) Value refl)
+      (gives-check (channelFits (c .received)) (Value _) refl)
       (gives-then
       (gives-check (permutes (c .frame .bits) (c .frame .pattern)) Pattern refl)
       (gives-then

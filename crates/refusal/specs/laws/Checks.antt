@@ -6,7 +6,7 @@ use mathlib.Core.Bool.{Bool, true, false, false≢true}
 use Prim.Native.Nat.{ℕ, _≤_}
 use native.Mathlib.Omega.{arith}
 use Rattle.refusal.specs.declared.Refusal.{Refusal}
-use Rattle.refusal.specs.declared.Refusal.the-variants.{Text, Shape, Polynomial, Branch, Length, Lists, Value, Bit, Pattern, Mask, Iterations, Coder, NoPath, ForcedPosition, NoTail}
+use Rattle.refusal.specs.declared.Refusal.the-variants.{Text, Shape, Polynomial, Branch, Length, Lists, Value, Apriori, Bit, Pattern, Mask, Iterations, Coder, NoPath, ForcedPosition, NoTail}
 use Rattle.refusal.specs.declared.Reply.{Reply}
 use Rattle.refusal.specs.declared.Reply.the-variants.{Done, Refused}
 use Rattle.refusal.specs.Refusals.{told, check, _then_}
@@ -64,9 +64,15 @@ unfolding _then_
 done-after Done e = sym e
 done-after (Refused r) e = refl
 
+-- a check made twice is made once, whatever the second would tell
+pub check-again : (b : Bool) (r s : Refusal) (rest : Reply) → (check b r then check b s then rest) ≡ (check b r then rest)
+unfolding check _then_
+check-again true r s rest = refl
+check-again false r s rest = refl
+
 -- ---- numbers
 
-pub number-small : (r : Refusal) → told r .number ≤ 15
+pub number-small : (r : Refusal) → told r .number ≤ 16
 unfolding told
 number-small (Text line) = omega arith
 number-small Shape = omega arith
@@ -74,7 +80,8 @@ number-small Polynomial = omega arith
 number-small Branch = omega arith
 number-small Length = omega arith
 number-small Lists = omega arith
-number-small Value = omega arith
+number-small (Value place) = omega arith
+number-small (Apriori index) = omega arith
 number-small Bit = omega arith
 number-small Pattern = omega arith
 number-small Mask = omega arith

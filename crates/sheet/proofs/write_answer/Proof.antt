@@ -3,10 +3,10 @@
 use mathlib.Core.Path.{_≡_, sym, _∙_}
 use native.Mathlib.Omega.{arith}
 use borrow.Author.Needs.{needs}
-use Rattle.refusal.specs.Refusals.{told}
+use Rattle.refusal.specs.Refusals.{told, placeOf}
 use Rattle.refusal.specs.declared.Reply.the-variants.{Done}
 use Rattle.sheet.specs.Sheet.{textReply}
-use Rattle.sheet.specs.laws.Fitting.{lineOf, Fitting, fitting}
+use Rattle.sheet.specs.laws.Fitting.{Fitting, fitting}
 use Rattle.sheet.specs.laws.Decoding.{answer-refused}
 use Rattle.sheet.proofs.write_answer.Statement.{statement}
 use Rattle.sheet.proofs.write_answer.Tie as tie
@@ -24,7 +24,7 @@ enum-known-reply : tie.Need-enum-known-reply
 enum-known-reply c = search needs
 
 put-refusal-requires : tie.Need-put-refusal-requires
-unfolding lineOf
+unfolding placeOf
 put-refusal-requires c κs =
     let told = c .before .before in
     let reply = told .before .before in

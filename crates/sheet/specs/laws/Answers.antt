@@ -16,16 +16,16 @@ use Rattle.lists.specs.laws.Listed.{listed-length, listed-at, joined-length}
 use Rattle.text.specs.Text.{bytes}
 use Rattle.text.specs.Decimal.{digitsIn, digits, decimal}
 use Rattle.refusal.specs.declared.Refusal.{Refusal}
-use Rattle.refusal.specs.declared.Refusal.the-variants.{Text, Value, Pattern}
+use Rattle.refusal.specs.declared.Refusal.the-variants.{Text, Pattern}
 use Rattle.refusal.specs.declared.Reply.{Reply}
 use Rattle.refusal.specs.declared.Reply.the-variants.{Done, Refused}
 use Rattle.refusal.specs.Refusals.{told, numberOf, check, _then_}
-use Rattle.refusal.specs.laws.Checks.{refused-is-not-done, done-after}
+use Rattle.refusal.specs.laws.Checks.{refused-is-not-done, check-again, done-after}
 use Rattle.refusal.specs.laws.Kept.{after-done}
 use Rattle.trellis.specs.Table.{nextState, shaped, branched}
 use Rattle.trellis.specs.Path.{finish}
 use Rattle.trellis.specs.Best.{IsBits, IsTerminating}
-use Rattle.trellis.specs.Limits.{channelFits}
+use Rattle.trellis.specs.Limits.{channelFits, channelReply}
 use Rattle.trellis.specs.laws.Branches.{next-below}
 use Rattle.trellis.specs.laws.Returning.{LeadsBack}
 use Rattle.frame.specs.Frame.{flags, spread}
@@ -33,7 +33,7 @@ use Rattle.frame.specs.Interleaver.{permutes, place, deinterleave}
 use Rattle.house.specs.House.{house, houseNext, houseParity}
 use Rattle.decoder.specs.Decoder.{DecodeCall, DecodeLent, decided, lastPass, decodeChecked, decodeWalked, decodeReply, decodeSettled, decode}
 use Rattle.decoder.specs.laws.Decodable.{walked-back}
-use Rattle.sheet.specs.Sheet.{messageBits, messageAt, valuesOf, firstFault, textReply, lentFor, resultLine, resultText, callOf as sheetCall}
+use Rattle.sheet.specs.Sheet.{messageBits, messageAt, valuesOf, valueReply, firstFault, textReply, lentFor, resultLine, resultText, callOf as sheetCall}
 use Rattle.sheet.specs.laws.Decoding.{blankFor, patternOf, call-is, lent-is, house-checked}
 use Rattle.sheet.specs.laws.Fitting.{fitting}
 
@@ -68,9 +68,9 @@ unfolding valuesOf joined
 values-long sheet = simp length-append (rw (joined-length {A = ℤ} _ 3 (λ k. refl) (messageBits sheet)) (omega arith))
 
 module _ (sheet : List ℕ) (fits : textReply sheet ≡ Done) where
-  -- what a sheet whose text fits can be refused for: its values (6), then its pattern (8)
+  -- what the frame of a sheet whose text fits can be refused for: its values (6), then its pattern (8)
   abbrev tests : ℕ → Reply
-  tests k = check (channelFits (valuesOf sheet)) Value then check (permutes k (patternOf sheet)) Pattern
+  tests k = channelReply (valuesOf sheet) then check (permutes k (patternOf sheet)) Pattern
 
   pattern-long : length (patternOf sheet) ≡ messageBits sheet
   pattern-long = listed-length (λ k. messageAt sheet k .to) (messageBits sheet)
@@ -89,9 +89,15 @@ module _ (sheet : List ℕ) (fits : textReply sheet ≡ Done) where
   unfolding sheetCall
   sheet-walked = walked-back (sheetCall sheet) house-back
 
-  pub sheet-reply : decode (sheetCall sheet) (lentFor sheet) .reply ≡ tests (messageBits sheet)
+  frame-reply : decode (sheetCall sheet) (lentFor sheet) .reply ≡ tests (messageBits sheet)
   unfolding decode decodeSettled decodeReply
-  sheet-reply = sym (done-after _ sheet-walked) ∙ sheet-checked
+  frame-reply = sym (done-after _ sheet-walked) ∙ sheet-checked
+
+  -- behind the check of the values, which tells 6 with its line, only 8 is left
+  pub sheet-reply : (valueReply sheet then decode (sheetCall sheet) (lentFor sheet) .reply)
+      ≡ (valueReply sheet then check (permutes (messageBits sheet) (patternOf sheet)) Pattern)
+  unfolding valueReply
+  sheet-reply = ap (λ (r : Reply). valueReply sheet then r) frame-reply ∙ check-again (channelFits (valuesOf sheet)) _ _ _
 
 -- ---- a text that doesn't fit is refused by 1
 

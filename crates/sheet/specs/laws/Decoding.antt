@@ -1,4 +1,5 @@
--- The frame of a sheet whose text fits: no check fails but those of the values and of the pattern, no refusal of the frame decoder names a line, and the answer by its parts.
+-- The frame of a sheet whose text fits: no check fails but those of the values and of the pattern, no refusal of the frame decoder behind the values' names a
+-- place, and the answer by its parts.
 -- Assumes nothing.
 use mathlib.Core.Path.{_≡_, refl, sym, ap, ap₂, _∙_}
 use mathlib.Core.Bool.{Bool, true, false, not, _||_}
@@ -18,18 +19,18 @@ use Rattle.refusal.specs.declared.Refusal.{Refusal}
 use Rattle.refusal.specs.declared.Refusal.the-variants.{Shape, Branch, Length, Lists, Value, Pattern, Mask, Iterations, Coder, NoPath, ForcedPosition}
 use Rattle.refusal.specs.declared.Reply.{Reply}
 use Rattle.refusal.specs.declared.Reply.the-variants.{Done, Refused}
-use Rattle.refusal.specs.Refusals.{told, check, _then_}
-use Rattle.refusal.specs.laws.Checks.{check-is-done, refused-then, fails-first, passes-first, done-after}
+use Rattle.refusal.specs.Refusals.{told, placeOf, check, _then_}
+use Rattle.refusal.specs.laws.Checks.{check-is-done, passes-first, done-after}
 use Rattle.trellis.specs.Table.{word, output, systematic, shaped, branched}
-use Rattle.trellis.specs.Limits.{channelFits}
+use Rattle.trellis.specs.Limits.{channelFits, channelReply}
 use Rattle.trellis.specs.Outcome.{pathless, forced}
 use Rattle.frame.specs.Frame.{sections, sizesFit, masksFit, codes, maskAt, onesTo, lengthUnder, frameLength}
 use Rattle.frame.specs.Interleaver.{permutes}
 use Rattle.house.specs.House.{house, houseNext, houseParity}
 use Rattle.decoder.specs.Decoder.{DecodeCall, DecodeLent, DecodeResult, goodIterations, decodeListsFit, decodeChecked, decodeWalked, decodeReply, decodeSettled, decode}
 use Rattle.decoder.specs.Lent.{callOf, lentOf}
-use Rattle.sheet.specs.Sheet.{messageBits, messageAt, valuesOf, textReply, lentFor, refusalText, resultText, printed, answer, callOf as sheetCall}
-use Rattle.sheet.specs.laws.Fitting.{lineOf}
+use Rattle.sheet.specs.Sheet.{messageBits, messageAt, valuesOf, valueReply, textReply, lentFor, refusalText, resultText, printed, answer, callOf as sheetCall}
+use Rattle.sheet.specs.laws.Loud.{loudIn, loud-is}
 
 -- the call for a pattern and its values
 abbrev pub houseCall : List ℕ → List ℤ → DecodeCall
@@ -39,9 +40,9 @@ houseCall pattern received = callOf 4 2 (house .next) (house .words) (length pat
 abbrev pub blankFor : ℕ → DecodeLent
 blankFor k = lentOf (replicate k 0) (replicate k (pos 0)) (replicate k (pos 0)) (replicate ((k + 3) * 4) (pos 0))
 
--- what is printed of a result
-abbrev pub printedBy : DecodeResult → List ℕ
-printedBy d = printed (d .reply) (d .lists)
+-- what is printed of a result, behind another reply
+abbrev pub printedAfter : Reply → DecodeResult → List ℕ
+printedAfter r d = printed (r then d .reply) (d .lists)
 
 -- ---- the sheet's call
 
@@ -61,37 +62,41 @@ module _ (sheet : List ℕ) where
   unfolding answer printed _then_
   answer-refused r e = rw e refl
 
-  pub answer-done : textReply sheet ≡ Done → printedBy (decode (sheetCall sheet) (lentFor sheet)) ≡ answer sheet
+  pub answer-done : textReply sheet ≡ Done → printedAfter (valueReply sheet) (decode (sheetCall sheet) (lentFor sheet)) ≡ answer sheet
   unfolding answer _then_
   answer-done e = rw e refl
 
--- ---- lines: the frame decoder's refusals have none
+-- ---- places: where no value is outside its limits, the frame decoder's refusals have none
 
-line-check : (b : Bool) (r : Refusal) → told r .line ≡ 0 → lineOf (check b r) ≡ 0
-unfolding lineOf check
-line-check true r e = refl
-line-check false r e = e
+place-check : (b : Bool) (r : Refusal) → told r .place ≡ 0 → placeOf (check b r) ≡ 0
+unfolding placeOf check
+place-check true r e = refl
+place-check false r e = e
 
-line-then : (x y : Reply) → lineOf x ≡ 0 → lineOf y ≡ 0 → lineOf (x then y) ≡ 0
-unfolding lineOf _then_
-line-then Done y e f = f
-line-then (Refused r) y e f = e
+place-passed : {b : Bool} (r : Refusal) → b ≡ true → placeOf (check b r) ≡ 0
+unfolding placeOf check
+place-passed r e = rw e refl
 
-pub decode-lineless : (c : DecodeCall) (l : DecodeLent) → lineOf (decode c l .reply) ≡ 0
+place-then : (x y : Reply) → placeOf x ≡ 0 → placeOf y ≡ 0 → placeOf (x then y) ≡ 0
+unfolding placeOf _then_
+place-then Done y e f = f
+place-then (Refused r) y e f = e
+
+pub decode-placeless : (c : DecodeCall) (l : DecodeLent) → channelFits (c .received) ≡ true → placeOf (decode c l .reply) ≡ 0
 unfolding decode decodeSettled decodeReply decodeChecked decodeWalked told
-decode-lineless c l =
-    line-then _ _
-    (line-then _ _ (line-check (shaped (c .frame .table)) Shape refl)
-    (line-then _ _ (line-check (branched (c .frame .table)) Branch refl)
-    (line-then _ _ (line-check (sizesFit (c .frame)) Length refl)
-    (line-then _ _ (line-check (decodeListsFit c l) Lists refl)
-    (line-then _ _ (line-check (channelFits (c .received)) Value refl)
-    (line-then _ _ (line-check (permutes (c .frame .bits) (c .frame .pattern)) Pattern refl)
-    (line-then _ _ (line-check (masksFit (c .frame)) Mask refl)
-    (line-then _ _ (line-check (goodIterations (c .iterations)) Iterations refl)
-    (line-check (codes (c .frame)) Coder refl)))))))))
-    (line-then _ _ (line-check (not (pathless (c .frame .table) (sections (c .frame)))) NoPath refl)
-    (line-check (not (any (forced (c .frame .table) (sections (c .frame))) (upto (c .frame .bits)))) ForcedPosition refl))
+decode-placeless c l small =
+    place-then _ _
+    (place-then _ _ (place-check (shaped (c .frame .table)) Shape refl)
+    (place-then _ _ (place-check (branched (c .frame .table)) Branch refl)
+    (place-then _ _ (place-check (sizesFit (c .frame)) Length refl)
+    (place-then _ _ (place-check (decodeListsFit c l) Lists refl)
+    (place-then _ _ (place-passed (Value _) small)
+    (place-then _ _ (place-check (permutes (c .frame .bits) (c .frame .pattern)) Pattern refl)
+    (place-then _ _ (place-check (masksFit (c .frame)) Mask refl)
+    (place-then _ _ (place-check (goodIterations (c .iterations)) Iterations refl)
+    (place-check (codes (c .frame)) Coder refl)))))))))
+    (place-then _ _ (place-check (not (pathless (c .frame .table) (sections (c .frame)))) NoPath refl)
+    (place-check (not (any (forced (c .frame .table) (sections (c .frame))) (upto (c .frame .bits)))) ForcedPosition refl))
 
 -- ---- the checks of a frame of K rows: none fails but that of the values and that of the pattern
 
@@ -151,39 +156,39 @@ module _ (pattern : List ℕ) (received : List ℤ) (some-bits : 1 ≤ length pa
   after-pattern : (check (masksFit (c .frame)) Mask then check (goodIterations 8) Iterations then check (codes (c .frame)) Coder) ≡ Done
   after-pattern = sym (passes-first Mask masks-fit (passes-first Iterations refl (sym (check-is-done _ Coder .1 house-codes))))
 
-  pub house-checked : decodeChecked c l ≡ (check (channelFits received) Value then check (permutes (length pattern) pattern) Pattern)
+  pub house-checked : decodeChecked c l ≡ (channelReply received then check (permutes (length pattern) pattern) Pattern)
   unfolding decodeChecked
   house-checked =
       sym
       (passes-first Shape house-shaped
       (passes-first Branch house-branched
-      (passes-first Length sizes-fit (passes-first Lists lists-fit (ap (λ (x : Reply). check (channelFits received) Value then x) (done-after _ after-pattern))))))
-
-  pub value-refused : channelFits received ≡ false → decode c l .reply ≡ Refused Value
-  unfolding decode decodeSettled decodeReply
-  value-refused e = refused-then (decodeWalked c) (house-checked ∙ sym (fails-first _ e))
+      (passes-first Length sizes-fit (passes-first Lists lists-fit (ap (λ (x : Reply). channelReply received then x) (done-after _ after-pattern))))))
 
 -- ---- what is printed of a result
 
-pub printed-refused : (d : DecodeResult) {r : Refusal} → d .reply ≡ Refused r → refusalText r ≡ printedBy d
+pub printed-refused : (r : Reply) (d : DecodeResult) {why : Refusal} → (r then d .reply) ≡ Refused why → refusalText why ≡ printedAfter r d
 unfolding printed
-printed-refused d e = rw e refl
+printed-refused r d e = rw e refl
 
-pub printed-done : (d : DecodeResult) → d .reply ≡ Done → resultText (d .lists) ≡ printedBy d
+pub printed-done : (r : Reply) (d : DecodeResult) → (r then d .reply) ≡ Done → resultText (d .lists) ≡ printedAfter r d
 unfolding printed
-printed-done d e = rw e refl
+printed-done r d e = rw e refl
 
--- what a refusal of the frame decoder says of its line
-pub refused-line : (c : DecodeCall) (l : DecodeLent) {r : Refusal} → Refused r ≡ decode c l .reply → told r .line ≤ 516
-unfolding lineOf
-refused-line c l e = omega (arith, ap lineOf e ∙ decode-lineless c l)
+-- behind a reply that is done, as alone
+pub printed-alone : {r : Reply} (d : DecodeResult) → r ≡ Done → printedAfter Done d ≡ printedAfter r d
+printed-alone d e = rw e refl
+
+-- what a refusal of the frame decoder says of its place
+pub refused-place : (c : DecodeCall) (l : DecodeLent) {r : Refusal} → channelFits (c .received) ≡ true → Refused r ≡ decode c l .reply → told r .place ≤ 516
+unfolding placeOf
+refused-place c l small e = omega (arith, ap placeOf e ∙ decode-placeless c l small)
 
 -- the answer, from the sheet's pattern and values
 pub answer-by : (sheet pattern : List ℕ) (values : List ℤ) → textReply sheet ≡ Done → pattern ≡ patternOf sheet → values ≡ valuesOf sheet →
-    printedBy (decode (houseCall pattern values) (blankFor (length pattern))) ≡ answer sheet
+    printedAfter (loudIn (length pattern) values) (decode (houseCall pattern values) (blankFor (length pattern))) ≡ answer sheet
 answer-by sheet pattern values done e f =
     let size : length pattern ≡ messageBits sheet = ap length e ∙ listed-length (λ k. messageAt sheet k .to) (messageBits sheet) in
-    ap₂ (λ (c : DecodeCall) (l : DecodeLent). printedBy (decode c l))
-    (ap₂ houseCall e f ∙ call-is sheet)
-    (ap blankFor size ∙ lent-is sheet)
+    ap₂ printedAfter
+    (ap₂ loudIn size f ∙ loud-is sheet)
+    (ap₂ decode (ap₂ houseCall e f ∙ call-is sheet) (ap blankFor size ∙ lent-is sheet))
     ∙ answer-done sheet done

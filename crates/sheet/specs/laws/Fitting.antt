@@ -18,15 +18,9 @@ use Rattle.text.specs.Text.{cut}
 use Rattle.refusal.specs.declared.Refusal.the-variants.{Text}
 use Rattle.refusal.specs.declared.Reply.{Reply}
 use Rattle.refusal.specs.declared.Reply.the-variants.{Done, Refused}
-use Rattle.refusal.specs.Refusals.{told}
 use Rattle.refusal.specs.laws.Checks.{refused-is-not-done, first-passed, fails-first, passes-first}
 use Rattle.sheet.specs.Sheet.{linesOf, lastPiece, rowCount, messageBits, lineFits, faultFrom, firstFault, textReply}
 use Rattle.sheet.specs.laws.Pieces.{Counted, Begins, ends-before, piece-is, front-length, front-at}
-
--- the line that a reply names
-unfoldable pub lineOf : Reply → ℕ
-lineOf Done = 0
-lineOf (Refused r) = told r .line
 
 -- ---- the sheet by its pieces
 

@@ -75,6 +75,6 @@ work-unseen l m e f g =
 
 -- ---- a refusal's text
 
-pub refusal-is : (r : Refusal) → (bytes "refused line\n" ++ entry (pos (told r .number)) 32) ++ entry (pos (told r .line)) 10 ≡ refusalText r
+pub refusal-is : (r : Refusal) → (bytes "refused line\n" ++ entry (pos (told r .number)) 32) ++ entry (pos (told r .place)) 10 ≡ refusalText r
 unfolding refusalText bytes decimal
 refusal-is r = simp append-assoc

@@ -15,17 +15,13 @@ use Rattle.text.specs.Text.{cut}
 use Rattle.sheet.specs.declared.Message.{Message}
 use Rattle.sheet.specs.declared.Tail.{Tail}
 use Rattle.sheet.specs.Rows.{MessageRow, TailRow, messageRow, tailRow}
-use Rattle.sheet.specs.Sheet.{linesOf, messageBits, messageAt, tailAt, valuesOf}
+use Rattle.sheet.specs.Sheet.{linesOf, messageBits, messageAt, tailAt, messageValues, valuesOf}
 use Rattle.sheet.specs.laws.Pieces.{front-at}
 use Rattle.sheet.specs.laws.Reading.{heard, messageShown, tailShown}
 
--- the values of message row k
-abbrev pub messageValues : List ℕ → ℕ → List ℤ
-messageValues sheet k = heard (messageAt sheet k .sys) ∷ heard (messageAt sheet k .par) ∷ heard (messageAt sheet k .par2) ∷ []
-
 -- the values of both tails, from the two tail rows
-abbrev pub tailValues : Tail → Tail → List ℤ
-tailValues a b = a .sys ∷ a .par ∷ b .sys ∷ b .par ∷ a .sys2 ∷ a .par2 ∷ b .sys2 ∷ b .par2 ∷ []
+abbrev pub bothTails : Tail → Tail → List ℤ
+bothTails a b = a .sys ∷ a .par ∷ b .sys ∷ b .par ∷ a .sys2 ∷ a .par2 ∷ b .sys2 ∷ b .par2 ∷ []
 
 -- row k as a tail row
 unfoldable pub tailIn : List ℕ → ℕ → Tail
@@ -33,7 +29,7 @@ tailIn sheet k = tailShown (tailRow k (getD (cut 10 sheet) (k + 1) []))
 
 -- the values of every place, K being k
 unfoldable pub valuesTo : List ℕ → ℕ → List ℤ
-valuesTo sheet k = joined (messageValues sheet) k ++ tailValues (tailIn sheet k) (tailIn sheet (k + 1))
+valuesTo sheet k = joined (messageValues sheet) k ++ bothTails (tailIn sheet k) (tailIn sheet (k + 1))
 
 -- ---- stores one after the other
 

@@ -6,7 +6,7 @@ use lib.ListN.{length}
 use borrow.Author.Tests.{eqb-true, eq-eqb}
 use Rattle.lists.specs.laws.Tests.{and-both, and-true}
 use Rattle.refusal.specs.declared.Reply.the-variants.{Done}
-use Rattle.refusal.specs.declared.Refusal.the-variants.{Shape, Branch, Length, Lists, Value}
+use Rattle.refusal.specs.declared.Refusal.the-variants.{Shape, Branch, Length, Lists, Value, Apriori}
 use Rattle.refusal.specs.laws.Checks.{check-is-done, first-passed, passes-first}
 use Rattle.siso.specs.Decode.{Call, Lent, listsFit, checked}
 use Rattle.siso.specs.laws.Pass.{Pass}
@@ -25,7 +25,8 @@ accepted c l e =
     let (branches, after-branches) = first-passed _ Branch _ after-shape in
     let (fits, after-fits) = first-passed _ Length _ after-branches in
     let (lists, after-lists) = first-passed _ Lists _ after-fits in
-    let (channel-small, apriori-small) = and-both _ _ (check-is-done _ Value .0 after-lists) in
+    let (channel-small, after-channel) = first-passed _ (Value _) _ after-lists in
+    let apriori-small = check-is-done _ (Apriori _) .0 after-channel in
     let (up-to-extrinsics, work) = and-both _ _ lists in
     let (up-to-margins, extrinsics) = and-both _ _ up-to-extrinsics in
     let (up-to-marks, margins) = and-both _ _ up-to-margins in
@@ -59,4 +60,4 @@ accepts c l a =
     (passes-first Shape (p .shape)
     (passes-first Branch (p .branches)
     (passes-first Length (p .fits)
-    (passes-first Lists lists (sym (check-is-done _ Value .1 (and-true (p .channel-small) (p .apriori-small))))))))
+    (passes-first Lists lists (passes-first (Value _) (p .channel-small) (sym (check-is-done _ (Apriori _) .1 (p .apriori-small))))))))

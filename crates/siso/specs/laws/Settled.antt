@@ -1,7 +1,7 @@
 -- What a pass leaves, by whether there is a path, and what the whole call leaves, by whether the checks refuse.
 -- Assumes nothing.
 use mathlib.Core.Path.{_≡_, refl, sym, _∙_}
-use mathlib.Core.Bool.{Bool, true, false, not, _&&_}
+use mathlib.Core.Bool.{Bool, true, false, not}
 use mathlib.Core.List.{List}
 use mathlib.Core.Option.{Option, none, some}
 use Prim.Native.Nat.{ℕ}
@@ -10,7 +10,7 @@ use lib.IntN.{ℤ, pos}
 use lib.ListN.{length, replicate}
 use Rattle.lists.specs.Lists.{found}
 use Rattle.refusal.specs.declared.Refusal.{Refusal}
-use Rattle.refusal.specs.declared.Refusal.the-variants.{Shape, Branch, Length, Lists, Value, NoPath}
+use Rattle.refusal.specs.declared.Refusal.the-variants.{Shape, Branch, Length, Lists, Value, Apriori, NoPath}
 use Rattle.refusal.specs.declared.Reply.the-variants.{Done, Refused}
 use Rattle.refusal.specs.Refusals.{told, check, after, cleared}
 use Rattle.refusal.specs.laws.Checks.{done-then, refused-then}
@@ -67,7 +67,9 @@ module _ (c : Call) (l : Lent) where
       (gives-check (sectionsFit (c .sections)) Length refl)
       (gives-then
       (gives-check (listsFit c l) Lists refl)
-      (gives-check (channelFits (c .values .channel) && aprioriFits (c .values .apriori)) Value refl))))
+      (gives-then
+      (gives-check (channelFits (c .values .channel)) (Value _) refl)
+      (gives-check (aprioriFits (c .values .apriori)) (Apriori _) refl)))))
 
   -- a refused call leaves everything as it was
   pub decode-refused : (r : Refusal) → checked c l ≡ Refused r → record { reply = Refused r; lists = l } ≡ decode c l

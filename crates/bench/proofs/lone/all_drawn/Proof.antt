@@ -6,10 +6,10 @@ use Rattle.bench.proofs.lone.all_drawn.Statement.{statement}
 use Rattle.bench.proofs.lone.all_drawn.Tie as tie
 
 abbrev Inv-loop : tie.InvT-loop
-Inv-loop cases t₀ seed₀ c₀ t seed c = c ≤ cases
+Inv-loop cases spoiled t₀ seed₀ c₀ t seed c = c ≤ cases
 
 abbrev μ-loop : tie.MeasureT-loop
-μ-loop cases t₀ seed₀ c₀ t seed c = cases - c
+μ-loop cases spoiled t₀ seed₀ c₀ t seed c = cases - c
 
 none-requires : tie.Need-none-requires Inv-loop μ-loop
 none-requires c κs = search needs

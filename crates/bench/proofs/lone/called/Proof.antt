@@ -33,11 +33,8 @@ slice-aggregate-decode-4 c = simp length-take (omega arith)
 decode-requires : tie.Need-decode-requires
 decode-requires c κs = search needs
 
-number-requires : tie.Need-number-requires
-number-requires c κs = search needs
-
-zeros-requires : tie.Need-zeros-requires
-zeros-requires c κs = search needs
+answered-requires : tie.Need-answered-requires
+answered-requires c κs = search needs
 
 returns : tie.Need-returns
 returns c = search needs
@@ -55,6 +52,5 @@ called-spec =
     array-borrow-prefix-work
     slice-aggregate-decode-4
     decode-requires
-    number-requires
-    zeros-requires
+    answered-requires
     returns)

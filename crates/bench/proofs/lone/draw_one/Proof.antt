@@ -39,14 +39,20 @@ words-requires c κs = search needs
 other-requires-3 : tie.Need-other-requires-3
 other-requires-3 c κs = search needs
 
-values-requires-2 : tie.Need-values-requires-2
-values-requires-2 c κs = search needs
+below-requires : tie.Need-below-requires
+below-requires c κs = search needs
 
 other-requires-4 : tie.Need-other-requires-4
 other-requires-4 c κs = search needs
 
-values-requires-3 : tie.Need-values-requires-3
-values-requires-3 c κs = search needs
+drawn-values-requires : tie.Need-drawn-values-requires
+drawn-values-requires c κs = search needs
+
+other-requires-5 : tie.Need-other-requires-5
+other-requires-5 c κs = search needs
+
+drawn-values-requires-2 : tie.Need-drawn-values-requires-2
+drawn-values-requires-2 c κs = search needs
 
 array-share-prefix-next : tie.Need-array-share-prefix-next
 array-share-prefix-next c = search needs
@@ -93,9 +99,11 @@ draw-one-spec =
     power-requires
     words-requires
     other-requires-3
-    values-requires-2
+    below-requires
     other-requires-4
-    values-requires-3
+    drawn-values-requires
+    other-requires-5
+    drawn-values-requires-2
     array-share-prefix-next
     slice-aggregate-compared
     array-share-prefix-words

@@ -33,9 +33,6 @@ slice-aggregate-decode-4 c = simp length-take (omega arith)
 decode-requires : tie.Need-decode-requires
 decode-requires c κs = search needs
 
-number-requires : tie.Need-number-requires
-number-requires c κs = search needs
-
 answered-requires : tie.Need-answered-requires
 answered-requires c κs = search needs
 
@@ -55,6 +52,5 @@ called-spec =
     array-borrow-prefix-work
     slice-aggregate-decode-4
     decode-requires
-    number-requires
     answered-requires
     returns)

@@ -8,13 +8,13 @@ use lib.Dec.{eqb}
 use lib.ListN.{length}
 use borrow.Author.Tests.{eqb-true, le-leb, not-true, not-false}
 use Rattle.lists.specs.laws.Tests.{and-left}
-use Rattle.refusal.specs.declared.Refusal.the-variants.{Shape, Branch, Length, Lists, Value, Pattern, Mask, Iterations, Coder}
+use Rattle.refusal.specs.declared.Refusal.the-variants.{Shape, Branch, Length, Lists, Pattern, Mask, Iterations, Coder}
 use Rattle.refusal.specs.declared.Reply.{Reply}
 use Rattle.refusal.specs.declared.Reply.the-variants.{Done}
 use Rattle.refusal.specs.Refusals.{check, _then_}
 use Rattle.refusal.specs.laws.Checks.{first-passed, done-then, refused-then, then-assoc, fails-first, passes-first}
 use Rattle.trellis.specs.Table.{shaped, branched}
-use Rattle.trellis.specs.Limits.{channelFits}
+use Rattle.trellis.specs.Limits.{channelReply}
 use Rattle.trellis.specs.laws.Branches.{shaped-is}
 use Rattle.frame.specs.Frame.{goodSizes, goodMasks, lengthUnder, sections, sizesFit, masksFit, codes, frameLength}
 use Rattle.frame.specs.Interleaver.{permutes}
@@ -33,7 +33,7 @@ on-table c = check (shaped (c .frame .table)) Shape then check (branched (c .fra
 
 on-entries : DecodeCall → Reply
 on-entries c =
-    check (channelFits (c .received)) Value
+    channelReply (c .received)
     then check (permutes (c .frame .bits) (c .frame .pattern)) Pattern
     then check (masksFit (c .frame)) Mask
     then check (goodIterations (c .iterations)) Iterations

@@ -8,11 +8,12 @@ use lib.IntN.{ℤ, pos}
 use lib.ListN.{length, take, length-replicate}
 use borrow.Author.Needs.{needs}
 use Rattle.lists.specs.laws.Lending.{Back, front-long, front-back, front-replicate}
-use Rattle.refusal.specs.Refusals.{told}
+use Rattle.refusal.specs.declared.Reply.the-variants.{Done}
+use Rattle.refusal.specs.Refusals.{told, _then_}
 use Rattle.decoder.specs.Decoder.{DecodeResult, decode}
 use Rattle.decoder.specs.Lent.{lentOf, resultOf}
 use Rattle.sheet.specs.laws.Printing.{work-unseen}
-use Rattle.sheet.specs.laws.Decoding.{houseCall, blankFor, printed-refused, printed-done, refused-line}
+use Rattle.sheet.specs.laws.Decoding.{houseCall, blankFor, printed-refused, printed-done, refused-place}
 use Rattle.sheet.proofs.decoding.decode_frame.Statement.{statement}
 use Rattle.sheet.proofs.decoding.decode_frame.Tie as tie
 
@@ -24,7 +25,7 @@ abbrev bits : tie.After-blank-work → ℕ
 bits c = length (start c .args .pattern .now)
 
 few : (c : tie.After-blank-work) → bits c ≤ 512
-few c = start c .pre .1
+few c = start c .pre .1 .0
 
 room-bits : (c : tie.After-blank-work) → bits c ≤ length (c .before .before .before .blank-bits .result)
 room-bits c =
@@ -125,18 +126,19 @@ enum-known-reply c = search needs
 put-refusal-requires : tie.Need-put-refusal-requires
 put-refusal-requires c κs =
     let ran = c .before .before .before .before .before .before .before .before in
-    (start (blanks ran) .pre .0, refused-line _ _ (sym (c .before .before .reply .given .1) ∙ ap (λ (d : DecodeResult). d .reply) (decoded ran)))
+    (start (blanks ran) .pre .0, refused-place _ _ (start (blanks ran) .pre .1 .1) (sym (c .before .before .reply .given .1) ∙ ap (λ (d : DecodeResult). d .reply) (decoded ran)))
 
 same-length : tie.Need-same-length
 same-length c = search needs
 
 returns : tie.Need-returns
+unfolding _then_
 returns c =
     let call = c .before .before in
     let told = call .before .before .before in
     let ran = told .before .before .before .before .before .before in
     let w = call .put-refusal .ensures in
-    record { few = w .few; is = w .is ∙ printed-refused (result ran) (sym (ap (λ (d : DecodeResult). d .reply) (decoded ran)) ∙ told .reply .given .1) }
+    record { few = w .few; is = w .is ∙ printed-refused Done (result ran) (sym (ap (λ (d : DecodeResult). d .reply) (decoded ran)) ∙ told .reply .given .1) }
 
 enum-told : tie.Need-enum-told
 enum-told c = search needs
@@ -171,6 +173,7 @@ same-length-2 : tie.Need-same-length-2
 same-length-2 c = search needs
 
 returns-2 : tie.Need-returns-2
+unfolding _then_
 returns-2 c =
     let call = c .before .before in
     let ran = call .before .before .before .before .before .before .before .before .before .before .before in
@@ -179,7 +182,7 @@ returns-2 c =
     let w = rw (bits-back ran .is, margins-back ran .is, extrinsics-back ran .is) at (call .put-result .ensures) in
     let same = work-unseen (lentOf (ran .decode-house .last .1 .1 .0) (ran .decode-house .last .1 .1 .1 .0) (ran .decode-house .last .1 .1 .1 .1 .0) []) (result ran .lists)
     (ap (λ (x : DecodeResult). x .lists .bits) d) (ap (λ (x : DecodeResult). x .lists .margins) d) (ap (λ (x : DecodeResult). x .lists .extrinsics) d) in
-    record { few = w .few; is = w .is ∙ same ∙ printed-done (result ran) (sym (ap (λ (x : DecodeResult). x .reply) d) ∙ told .enum-told .given .1) }
+    record { few = w .few; is = w .is ∙ same ∙ printed-done Done (result ran) (sym (ap (λ (x : DecodeResult). x .reply) d) ∙ told .enum-told .given .1) }
 
 pub decode-frame-spec : {M : Type 1} → statement M
 decode-frame-spec =

@@ -1,14 +1,20 @@
 -- `decoding::decode_values` meets its contract: 6, or the values as they are.
 -- Assumes nothing.
-use mathlib.Core.Path.{sym, _∙_}
-use Prim.Native.Nat.{_≤_}
+use mathlib.Core.Path.{_≡_, sym, ap, _∙_}
+use mathlib.Core.Bool.{true}
+use Prim.Native.Nat.{ℕ, _≤_}
 use native.Mathlib.Omega.{arith}
 use lib.ListN.{length}
 use borrow.Author.Tests.{not-true, not-false}
 use borrow.Author.Needs.{needs}
 use Rattle.lists.specs.laws.Lending.{Back, front-long, front-back}
+use Rattle.refusal.specs.declared.Refusal.the-variants.{Value}
+use Rattle.refusal.specs.declared.Reply.the-variants.{Refused}
 use Rattle.refusal.specs.Refusals.{told}
-use Rattle.sheet.specs.laws.Decoding.{printed-refused, value-refused}
+use Rattle.refusal.specs.laws.Checks.{refused-then}
+use Rattle.trellis.specs.Limits.{channelFits}
+use Rattle.sheet.specs.laws.Decoding.{printed-refused, printed-alone}
+use Rattle.sheet.specs.laws.Loud.{loud-refused, loud-done}
 use Rattle.sheet.proofs.decoding.decode_values.Statement.{statement}
 use Rattle.sheet.proofs.decoding.decode_values.Tie as tie
 
@@ -33,9 +39,12 @@ slice-aggregate-narrow-all c = front-long _ _ (room (c .before))
 narrow-all-requires : tie.Need-narrow-all-requires
 narrow-all-requires c κs = sym (front-long _ _ (room (c .before)))
 
+loud-line-requires : tie.Need-loud-line-requires
+loud-line-requires c κs = let pre = start (c .before .before) .pre in (pre .1 .1 .1, pre .1 .1 .0)
+
 put-refusal-requires : tie.Need-put-refusal-requires
 unfolding told
-put-refusal-requires c κs = (start (c .before .before .before) .pre .0, omega arith)
+put-refusal-requires c κs = (start (c .before .before .before .before) .pre .0, c .before .loud-line .ensures .1)
 
 same-length : tie.Need-same-length
 same-length c = search needs
@@ -43,12 +52,13 @@ same-length c = search needs
 returns : tie.Need-returns
 returns c =
     let call = c .before .before in
-    let test = call .before .before in
+    let line = call .before .before in
+    let test = line .before in
     let ran = test .before .before in
-    let pre = start ran .pre in
     let w = call .put-refusal .ensures in
     let loud = sym (ran .narrow-all .ensures .0) ∙ not-true _ (test .if1 .taken) in
-    record { few = w .few; is = w .is ∙ printed-refused _ (value-refused (start ran .args .pattern .now) (start ran .args .values .now) (pre .1 .0) (pre .1 .1 .0) (pre .1 .1 .1) loud) }
+    let told = ap (λ (n : ℕ). Refused (Value n)) (line .loud-line .ensures .0) ∙ loud-refused _ _ loud in
+    record { few = w .few; is = w .is ∙ printed-refused _ _ (refused-then _ (sym told)) }
 
 array-share-prefix-received : tie.Need-array-share-prefix-received
 array-share-prefix-received c = back (c .before .before .before) .within
@@ -57,7 +67,13 @@ slice-aggregate-decode-frame : tie.Need-slice-aggregate-decode-frame
 slice-aggregate-decode-frame c = let b = back (c .before .before .before .before) in rw (b .is) (sym (b .long))
 
 decode-frame-requires : tie.Need-decode-frame-requires
-decode-frame-requires c κs = search needs
+decode-frame-requires c κs =
+    let test = c .before .before in
+    let ran = test .before .before in
+    let passed = not-false _ (test .if1 .left) in
+    let small : channelFits (start ran .args .values .now) ≡ true = sym (ran .narrow-all .ensures .0) ∙ passed in
+    let pre = start ran .pre in
+    rw (back ran .is, ran .narrow-all .ensures .1 passed) (pre .0, (pre .1 .1 .0, small))
 
 same-length-2 : tie.Need-same-length-2
 same-length-2 c = search needs
@@ -67,8 +83,9 @@ returns-2 c =
     let call = c .before .before in
     let test = call .before .before .before in
     let ran = test .before .before in
-    let small = not-false _ (test .if1 .left) in
-    rw (back ran .is, ran .narrow-all .ensures .1 small) at (call .decode-frame .ensures)
+    let passed = not-false _ (test .if1 .left) in
+    let w = rw (back ran .is, ran .narrow-all .ensures .1 passed) at (call .decode-frame .ensures) in
+    record { few = w .few; is = w .is ∙ printed-alone _ (loud-done _ _ (sym (ran .narrow-all .ensures .0) ∙ passed)) }
 
 pub decode-values-spec : {M : Type 1} → statement M
 decode-values-spec =
@@ -78,6 +95,7 @@ decode-values-spec =
     array-borrow-prefix-received
     slice-aggregate-narrow-all
     narrow-all-requires
+    loud-line-requires
     put-refusal-requires
     same-length
     returns

@@ -10,10 +10,10 @@ use borrow.Author.Tests.{lt-ltb, le-ltb, lt-leb, le-leb}
 use borrow.Author.Needs.{needs}
 use Rattle.refusal.specs.declared.Refusal.the-variants.{Text}
 use Rattle.refusal.specs.declared.Reply.the-variants.{Refused}
-use Rattle.refusal.specs.Refusals.{told as toldOf}
+use Rattle.refusal.specs.Refusals.{told as toldOf, placeOf}
 use Rattle.sheet.specs.Sheet.{linesOf, rowCount, messageBits, faultFrom}
 use Rattle.sheet.specs.laws.Pieces.{cut-some}
-use Rattle.sheet.specs.laws.Fitting.{lineOf, lines-are, last-empty, rows-are, too-long, too-few, too-many, text-fault, text-open, text-done}
+use Rattle.sheet.specs.laws.Fitting.{lines-are, last-empty, rows-are, too-long, too-few, too-many, text-fault, text-open, text-done}
 use Rattle.sheet.proofs.faults.text_reply.Statement.{statement}
 use Rattle.sheet.proofs.faults.text_reply.Tie as tie
 
@@ -61,15 +61,15 @@ row-count-requires : tie.Need-row-count-requires
 row-count-requires c κs = search needs
 
 returns : tie.Need-returns
-unfolding lineOf toldOf
+unfolding placeOf toldOf
 returns c = (too-long _ (c .if1 .taken), omega arith)
 
 returns-2 : tie.Need-returns-2
-unfolding lineOf toldOf
+unfolding placeOf toldOf
 returns-2 c = (too-few _ (rw (rows-eq (c .before .before)) at (c .if2 .taken)), omega arith)
 
 returns-3 : tie.Need-returns-3
-unfolding lineOf toldOf
+unfolding placeOf toldOf
 returns-3 c = (too-many _ (rw (rows-eq (c .before .before .before)) at (c .if3 .taken)), omega arith)
 
 sub-first-fault : tie.Need-sub-first-fault
@@ -82,7 +82,7 @@ add-t12 : tie.Need-add-t12
 add-t12 c = search needs
 
 returns-4 : tie.Need-returns-4
-unfolding lineOf toldOf
+unfolding placeOf toldOf
 returns-4 c =
     let ran = c .before in
     let fits = ran .before in
@@ -95,7 +95,7 @@ add-t14 : tie.Need-add-t14
 add-t14 c = search needs
 
 returns-5 : tie.Need-returns-5
-unfolding lineOf toldOf
+unfolding placeOf toldOf
 returns-5 c =
     let ran = c .before .before in
     let fits = ran .before in
@@ -105,7 +105,7 @@ returns-5 c =
     (ap (λ (n : ℕ). Refused (Text (n + 1))) (sym (lines-are counted)) ∙ text-open s (short fits) (least fits) (most fits) (none-found (c .before)) unended, omega (arith, few fits))
 
 returns-6 : tie.Need-returns-6
-unfolding lineOf toldOf
+unfolding placeOf toldOf
 returns-6 c =
     let ran = c .before .before in
     let fits = ran .before in

@@ -19,15 +19,15 @@ number-of-refusal-requires c κs = search needs
 
 cast-number : tie.Need-cast-number
 cast-number c =
-    let small : c .number-of-refusal .result ≤ 15 = rw (c .number-of-refusal .ensures) (number-small (c .before .before .args .why)) in
+    let small : c .number-of-refusal .result ≤ 16 = rw (c .number-of-refusal .ensures) (number-small (c .before .before .args .why)) in
     simp ints (omega arith)
 
-line-of-requires : tie.Need-line-of-requires
-line-of-requires c κs = search needs
+place-of-refusal-requires : tie.Need-place-of-refusal-requires
+place-of-refusal-requires c κs = search needs
 
 cast-line : tie.Need-cast-line
 cast-line c =
-    let small : c .line-of .result ≤ 516 = rw (c .line-of .ensures) (c .before .before .before .pre .1) in
+    let small : c .place-of-refusal .result ≤ 516 = rw (c .place-of-refusal .ensures) (c .before .before .before .pre .1) in
     simp ints (omega arith)
 
 slice-aggregate-put : tie.Need-slice-aggregate-put
@@ -54,7 +54,7 @@ returns c =
     let line-told = header .before .before .before in
     let number-told = line-told .before in
     let number = toZ-ofZ (cast-number number-told) ∙ ap pos (number-told .number-of-refusal .ensures) in
-    let line = toZ-ofZ (cast-line line-told) ∙ ap pos (line-told .line-of .ensures) in
+    let line = toZ-ofZ (cast-line line-told) ∙ ap pos (line-told .place-of-refusal .ensures) in
     let w = wrote-then (wrote-then (pasted-wrote 13 (omega arith) (omega arith) (header .put .ensures)) (one .put-number .ensures)) (two .put-number2 .ensures) in
     record {
       few = omega (arith, w .few);
@@ -67,7 +67,7 @@ put-refusal-spec =
     (tie.spec
     number-of-refusal-requires
     cast-number
-    line-of-requires
+    place-of-refusal-requires
     cast-line
     slice-aggregate-put
     put-requires

@@ -3,7 +3,7 @@
 use mathlib.Core.Path.{ap₂, _∙_}
 use mathlib.Core.List.{_++_}
 use borrow.Author.Needs.{needs}
-use Rattle.sheet.specs.laws.Receiving.{tailValues, valuesTo}
+use Rattle.sheet.specs.laws.Receiving.{bothTails, valuesTo}
 use Rattle.sheet.proofs.values.read_frame.Statement.{statement}
 use Rattle.sheet.proofs.values.read_frame.Tie as tie
 
@@ -39,7 +39,7 @@ returns c =
     let tail1 = tail2 .before in
     let read = tail1 .before .before .before .before in (
       read .read-messages .ensures .0,
-      call .put-tails .ensures ∙ ap₂ _++_ (read .read-messages .ensures .1) (ap₂ tailValues (tail1 .tail-at .ensures) (tail2 .tail-at2 .ensures)),
+      call .put-tails .ensures ∙ ap₂ _++_ (read .read-messages .ensures .1) (ap₂ bothTails (tail1 .tail-at .ensures) (tail2 .tail-at2 .ensures)),
     )
 
 pub read-frame-spec : {M : Type 1} → statement M

@@ -15,7 +15,8 @@ use Rattle.lists.specs.laws.Listed.{joined-more}
 use Rattle.lists.specs.laws.Stores.{Filled, filled-none, filled-more, filled-all}
 use Rattle.sheet.specs.laws.Pieces.{Begins, begins-first, begins-next, ends-inside, ends-after, ends-before, piece-is}
 use Rattle.sheet.specs.Sheet.{messageAt}
-use Rattle.sheet.specs.laws.Receiving.{messageValues, message-said}
+use Rattle.sheet.specs.Sheet.{messageValues}
+use Rattle.sheet.specs.laws.Receiving.{message-said}
 use Rattle.sheet.proofs.values.read_messages.Statement.{statement}
 use Rattle.sheet.proofs.values.read_messages.Tie as tie
 

@@ -1,18 +1,18 @@
 -- `siso::checks::reply` goes through the checks of a call in turn: those of the table first, then the number of sections, the lists and the values.
 -- Assumes nothing.
 use mathlib.Core.Path.{_≡_, sym, _∙_}
-use mathlib.Core.Bool.{true, _&&_, and-false}
+use mathlib.Core.Bool.{true, and-false}
 use borrow.Author.Needs.{needs}
 use borrow.Author.Tests.{le-leb, lt-leb}
 use Rattle.lists.specs.laws.Tests.{and-true}
-use Rattle.refusal.specs.declared.Refusal.the-variants.{Shape, Branch, Length, Lists, Value}
+use Rattle.refusal.specs.declared.Refusal.the-variants.{Shape, Branch, Length, Lists}
 use Rattle.refusal.specs.declared.Reply.{Reply}
 use Rattle.refusal.specs.declared.Reply.the-variants.{Done}
 use Rattle.refusal.specs.Refusals.{check, _then_}
 use Rattle.refusal.specs.laws.Checks.{first-passed, done-then, refused-then, then-assoc, fails-first, passes-first}
 use Rattle.trellis.specs.Table.{shaped, branched}
 use Rattle.trellis.specs.laws.Branches.{shaped-is}
-use Rattle.trellis.specs.Limits.{sectionsFit, channelFits, aprioriFits}
+use Rattle.trellis.specs.Limits.{sectionsFit, channelReply, aprioriReply}
 use Rattle.siso.specs.Decode.{Call, Lent, listsFit, checked}
 use Rattle.siso.specs.Lent.{callOf}
 use Rattle.siso.proofs.checks.reply.Statement.{statement}
@@ -27,7 +27,8 @@ after-table : Call → Lent → Reply
 after-table c l =
     check (sectionsFit (c .sections)) Length
     then check (listsFit c l) Lists
-    then check (channelFits (c .values .channel) && aprioriFits (c .values .apriori)) Value
+    then channelReply (c .values .channel)
+    then aprioriReply (c .values .apriori)
 
 in-turn : (c : Call) (l : Lent) → checked c l ≡ (on-table c then after-table c l)
 unfolding checked on-table after-table
@@ -100,26 +101,30 @@ lists-fit-requires c κs =
 check-requires : tie.Need-check-requires
 check-requires c κs = search needs
 
-values-fit-requires : tie.Need-values-fit-requires
-values-fit-requires c κs = search needs
+channel-reply-requires : tie.Need-channel-reply-requires
+channel-reply-requires c κs = search needs
 
-check-requires-2 : tie.Need-check-requires-2
-check-requires-2 c κs = search needs
+apriori-reply-requires : tie.Need-apriori-reply-requires
+apriori-reply-requires c κs = search needs
 
 first-of-requires : tie.Need-first-of-requires
 first-of-requires c κs = search needs
 
+first-of-requires-2 : tie.Need-first-of-requires-2
+first-of-requires-2 c κs = search needs
+
 returns-4 : tie.Need-returns-4
 unfolding after-table listsFit
 returns-4 c l sized =
-    let measured = c .before .before .before in
+    let measured = c .before .before .before .before in
     let short = measured .before .before in
     past-table (short .before .before) l
     (passes-first Length (sections-fit short)
     (rw (
-      c .first-of .ensures,
-      c .before .check2 .ensures,
-      c .before .before .values-fit .ensures,
+      c .first-of2 .ensures,
+      c .before .first-of .ensures,
+      c .before .before .apriori-reply .ensures,
+      c .before .before .before .channel-reply .ensures,
       measured .check .ensures,
       measured .before .lists-fit .ensures,
       sized .marks-sized,
@@ -140,7 +145,8 @@ reply-spec =
     returns-3
     lists-fit-requires
     check-requires
-    values-fit-requires
-    check-requires-2
+    channel-reply-requires
+    apriori-reply-requires
     first-of-requires
+    first-of-requires-2
     returns-4)

@@ -1,27 +1,27 @@
--- `bench::lone::zeros` is safe and ends. The invariant: the index is at most the count.
+-- `bench::outcomes::unwritten` is safe and ends. The invariant: the index is at most 12.
 -- Assumes nothing.
 use Prim.Native.Nat.{_-_, _≤_}
 use borrow.Author.Needs.{needs}
-use Rattle.bench.proofs.lone.zeros.Statement.{statement}
-use Rattle.bench.proofs.lone.zeros.Tie as tie
+use Rattle.bench.proofs.outcomes.unwritten.Statement.{statement}
+use Rattle.bench.proofs.outcomes.unwritten.Tie as tie
 
 abbrev Inv-loop : tie.InvT-loop
-Inv-loop n xs i₀ i = i ≤ n
+Inv-loop a k₀ k = k ≤ 12
 
 abbrev μ-loop : tie.MeasureT-loop
-μ-loop n xs i₀ i = n - i
+μ-loop a k₀ k = 12 - k
 
 loop-holds : tie.Need-loop-holds Inv-loop μ-loop
 loop-holds c = search needs
 
-word-requires : tie.Need-word-requires Inv-loop μ-loop
-word-requires c κs = search needs
+agrees-requires : tie.Need-agrees-requires Inv-loop μ-loop
+agrees-requires c κs = search needs
 
 returns : tie.Need-returns Inv-loop μ-loop
 returns c = search needs
 
-add-i : tie.Need-add-i Inv-loop μ-loop
-add-i c = search needs
+add-k : tie.Need-add-k Inv-loop μ-loop
+add-k c = search needs
 
 loop-less : tie.Need-loop-less Inv-loop μ-loop
 loop-less c = search needs
@@ -32,16 +32,16 @@ loop-again c = search needs
 returns-2 : tie.Need-returns-2 Inv-loop μ-loop
 returns-2 c = search needs
 
-pub zeros-spec : {M : Type 1} → statement M
-zeros-spec =
+pub unwritten-spec : {M : Type 1} → statement M
+unwritten-spec =
     tie.close
     (tie.spec
     Inv-loop
     μ-loop
     loop-holds
-    word-requires
+    agrees-requires
     returns
-    add-i
+    add-k
     loop-less
     loop-again
     returns-2)
