@@ -1,4 +1,5 @@
--- Where the bad value sits, the proof: whatever a decoder is lent, the index that it tells with 6 or 16 is that of the first value outside its limits.
+-- Where the bad value sits, the proof: whatever a decoder is lent, the index that it tells with 6 or 16 is that of the first value outside its limits, and
+-- such a value is told so or by a number that stands before 6.
 -- Assumes nothing.
 use mathlib.Core.Path.{_≡_, refl, sym, subst, ap, _∙_}
 use mathlib.Core.Logic.{inl, inr}
@@ -33,18 +34,14 @@ use Rattle.demands.specs.Placed.{numbersBefore6, IsPlaced}
 unfoldable others : Refusal → Bool
 others r = other 6 r && other 16 r
 
+-- a value outside a limit fails the test of all values
+outside-fails : (limit : ℕ) (xs : List ℤ) (i : ℕ) → IsFirstOutside limit xs i → every (inside limit) xs ≡ true → ⊥
+unfolding inside
+outside-fails limit xs i h e = false≢true (sym (lt-leb _ limit (h .outside)) ∙ every-at (inside limit) (pos 0) xs e i (h .in-list))
+
 module _ (channel apriori : List ℤ) where
   abbrev Placed : Reply → Type 0
   Placed r = IsPlaced channel apriori r
-
-  -- a value outside its limits fails its test
-  loud-channel : (i : ℕ) → IsFirstOutside channelLimit channel i → channelFits channel ≡ true → ⊥
-  unfolding channelFits inside
-  loud-channel i h e = false≢true (sym (lt-leb _ channelLimit (h .outside)) ∙ every-at (inside channelLimit) (pos 0) channel e i (h .in-list))
-
-  loud-apriori : (i : ℕ) → IsFirstOutside aprioriLimit apriori i → aprioriFits apriori ≡ true → ⊥
-  unfolding aprioriFits inside
-  loud-apriori i h e = false≢true (sym (lt-leb _ aprioriLimit (h .outside)) ∙ every-at (inside aprioriLimit) (pos 0) apriori e i (h .in-list))
 
   -- ---- checks in turn
 
@@ -58,25 +55,22 @@ module _ (channel apriori : List ℤ) where
     unfolding others other told
     unsaid-16 i is = false≢true (gives-refusal {f = others} {r = Apriori i} (rw is at e))
 
-    -- where every value is within its limits
-    placed-clean : channelFits channel ≡ true → aprioriFits apriori ≡ true → Placed r
-    placed-clean small slight = record {
+    -- it need only come before 6 where a value is outside its limits
+    placed-other : ((i : ℕ) → IsFirstOutside channelLimit channel i → List·Memᴰ (numberOf r) numbersBefore6) →
+        ((i : ℕ) → IsFirstOutside aprioriLimit apriori i → List·Memᴰ (numberOf r) numbersBefore6) → Placed r
+    placed-other loud spoiled = record {
       value = λ i is. absurd (unsaid-6 i is);
       apriori-value = λ i is. absurd (unsaid-16 i is);
       after-6 = λ i is. absurd (unsaid-16 i is);
-      value-told = λ i h. absurd (loud-channel i h small);
-      apriori-told = λ i s h. absurd (loud-apriori i h slight);
+      value-told = λ i h. inr (loud i h);
+      apriori-told = λ i s h. inr (spoiled i h);
     }
 
-    -- and where its number stands before 6
-    placed-before : List·Memᴰ (numberOf r) numbersBefore6 → Placed r
-    placed-before m = record {
-      value = λ i is. absurd (unsaid-6 i is);
-      apriori-value = λ i is. absurd (unsaid-16 i is);
-      after-6 = λ i is. absurd (unsaid-16 i is);
-      value-told = λ i h. inr m;
-      apriori-told = λ i s h. inr m;
-    }
+    -- where every value is within its limits
+    placed-clean : channelFits channel ≡ true → aprioriFits apriori ≡ true → Placed r
+    unfolding channelFits aprioriFits
+    placed-clean small slight =
+        placed-other (λ i h. absurd (outside-fails channelLimit channel i h small)) (λ i h. absurd (outside-fails aprioriLimit apriori i h slight))
 
   -- what comes after a reply counts only where that is done
   placed-then : (x : Reply) {y : Reply} → Placed x → (x ≡ Done → Placed y) → Placed (x then y)
@@ -87,7 +81,7 @@ module _ (channel apriori : List ℤ) where
   placed-next : (b : Bool) (r : Refusal) {rest : Reply} → others r ≡ true → List·Memᴰ (told r .number) numbersBefore6 → Placed rest → Placed (check b r then rest)
   unfolding check _then_ numberOf
   placed-next true r e m rest = rest
-  placed-next false r e m rest = placed-before (Refused r) (gives-check false r e) m
+  placed-next false r e m rest = placed-other (Refused r) (gives-check false r e) (λ i h. m) (λ i h. m)
 
   -- ---- the checks of the values
 
@@ -110,12 +104,12 @@ module _ (channel apriori : List ℤ) where
     where
       go : (b : Bool) → aprioriFits apriori ≡ b → Placed (check b (Apriori (firstOutside aprioriLimit apriori)))
       go true e = unfold check others other told in placed-clean Done (gives-check true Shape refl) small e
-      go false e = unfold check aprioriFits told numberOf placeOf in
+      go false e = unfold check channelFits aprioriFits told numberOf placeOf in
           record {
             value = λ i is. absurd (let sixteen : _≡_ {A = ℕ} 16 6 = ap numberOf is in omega arith);
             apriori-value = λ i is. subst (IsFirstOutside aprioriLimit apriori) (ap placeOf is) (first-outside-is aprioriLimit apriori e);
             after-6 = λ i is. small;
-            value-told = λ i h. absurd (loud-channel i h small);
+            value-told = λ i h. absurd (outside-fails channelLimit channel i h small);
             apriori-told = λ i s h. inl (ap (λ (n : ℕ). Refused (Apriori n)) (first-outside-only aprioriLimit apriori i h));
           }
 

@@ -1,5 +1,5 @@
--- The frame of a sheet whose text fits: no check fails but those of the values and of the pattern, no refusal of the frame decoder behind the values' names a
--- place, and the answer by its parts.
+-- The frame of a sheet whose text fits: no check fails but those of the values and of the pattern, where every value is within its limits no refusal of the
+-- frame decoder names a place, and the answer by its parts.
 -- Assumes nothing.
 use mathlib.Core.Path.{_≡_, refl, sym, ap, ap₂, _∙_}
 use mathlib.Core.Bool.{Bool, true, false, not, _||_}

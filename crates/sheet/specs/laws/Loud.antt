@@ -1,5 +1,5 @@
--- The rows of a sheet by the values in the frame's order: row by row they are what is read from left to right, and none is outside its limits exactly where
--- no value is.
+-- The rows of a sheet by the values in the frame's order: row by row they are what is read from left to right, and where a value is outside its limits, some
+-- row has one.
 -- Assumes nothing.
 use mathlib.Core.Path.{_≡_, refl, sym, ap, ap₂, _∙_}
 use mathlib.Core.Bool.{Bool, true, false, _&&_, false≢true, and-assoc, and-true as and-true-is}
