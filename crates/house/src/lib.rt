@@ -1,7 +1,6 @@
-// The house code: one branch by its state equations, and the table's two lists.
+// The house code: its eight branches as two constant arrays, and the table's two lists.
 ghost use mathlib.Core.Path.{_≡_};
 ghost use Prim.Native.Nat.{_<_};
-ghost use lib.Bits.{bitXor};
 ghost use Rattle.house.specs.House.{houseParity, houseNext, house};
 
 // The parity for input x in state s, and the state after it.
@@ -10,14 +9,11 @@ struct Branch {
     next: u8,
 }
 
-// Two bits that differ give 1.
-fn xor(a: u8, b: u8) -> u8
-    requires { ⌜ a < 2 ⌝ }
-    requires { ⌜ b < 2 ⌝ }
-    ensures { λ r. ⌜ (r ≡ bitXor a b) × (r < 2) ⌝ }
-{
-    (a + b) % 2
-}
+// The eight branches, that of state s and input x at 2·s + x: the state after each.
+const NEXT_STATES: [u8; 8] = [0, 1, 3, 2, 1, 0, 2, 3];
+
+// The parity of each.
+const PARITIES: [u8; 8] = [0, 1, 1, 0, 0, 1, 1, 0];
 
 // State s is s0 + 2·s1: the parity is x⊕s0, the next s0 is x⊕s0⊕s1, the next s1 is s0.
 fn branch_of(s: u8, x: u8) -> Branch
@@ -25,12 +21,10 @@ fn branch_of(s: u8, x: u8) -> Branch
     requires { ⌜ x < 2 ⌝ }
     ensures { λ r. ⌜ (r .parity ≡ houseParity s x) × (r .parity < 2) × (r .next ≡ houseNext s x) ⌝ }
 {
-    let s0 = s % 2;
-    let s1 = s / 2;
-    let parity = xor(x, s0);
+    let i = (2 * s + x) as usize;
     Branch {
-        parity: parity,
-        next: xor(parity, s1) + 2 * s0,
+        parity: PARITIES[i],
+        next: NEXT_STATES[i],
     }
 }
 

@@ -1,31 +1,32 @@
--- `house::branch_of` meets its contract: the state equations, one exclusive or at a time.
+-- `house::branch_of` meets its contract: both arrays pass the one test over all eight branches, and the rule follows at 2·s + x.
 -- Assumes nothing.
-use mathlib.Core.Path.{ap, _∙_}
-use Prim.Native.Nat.{ℕ, _+_, _*_, _%_, _/_}
-use native.Mathlib.Omega.{arith}
-use lib.Bits.{bitXor}
+use mathlib.Core.Path.{refl}
 use borrow.Author.Needs.{needs}
+use Rattle.lists.specs.Lists.{every, upto, listed}
 use Rattle.house.specs.House.{houseParity, houseNext}
+use Rattle.house.specs.laws.Branches.{areBranches, branch-at}
 use Rattle.house.proofs.branch_of.Statement.{statement}
 use Rattle.house.proofs.branch_of.Tie as tie
 
-xor-requires : tie.Need-xor-requires
-xor-requires c κs = search needs
+mul-i : tie.Need-mul-i
+mul-i c = search needs
 
-xor-requires-2 : tie.Need-xor-requires-2
-xor-requires-2 c κs = omega (arith, c .xor .ensures .1)
+add-i : tie.Need-add-i
+add-i c = search needs
 
-mul-t7 : tie.Need-mul-t7
-mul-t7 c = search needs
+cast-i : tie.Need-cast-i
+cast-i c = search needs
 
-add-t8 : tie.Need-add-t8
-add-t8 c = omega (arith, c .xor2 .ensures .1)
+array-read-t4 : tie.Need-array-read-t4
+array-read-t4 c = search needs
 
+array-read-t5 : tie.Need-array-read-t5
+array-read-t5 c = search needs
+
+-- `refl` is the test: the checker computes it over the arrays as they stand in the code
 returns : tie.Need-returns
-unfolding houseParity houseNext
-returns c =
-    let s = c .before .before .args .s in
-    (c .before .xor .ensures .0, c .before .xor .ensures .1, ap (λ (k : ℕ). k + 2 * (s % 2)) (c .xor2 .ensures .0 ∙ ap (λ (p : ℕ). bitXor p (s / 2)) (c .before .xor .ensures .0)))
+unfolding areBranches every upto listed houseParity houseNext
+returns c = branch-at _ _ refl (c .pre .0) (c .pre .1)
 
 pub branch-of-spec : {M : Type 1} → statement M
-branch-of-spec = tie.close (tie.spec xor-requires xor-requires-2 mul-t7 add-t8 returns)
+branch-of-spec = tie.close (tie.spec mul-i add-i cast-i array-read-t4 array-read-t5 returns)
