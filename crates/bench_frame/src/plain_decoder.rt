@@ -82,7 +82,14 @@ pub fn channel(
     xs
 }
 
-// An extrinsic limited to -8,191..8,191.
+// Three quarters of an extrinsic, rounded towards zero: what is left without a quarter of it, rounded away from zero.
+fn three_quarters(e: i32) -> i32 {
+    let up = if e < 0 { -3 } else { 3 };
+    let quarter = safe::halved(safe::halved(safe::sum(e, up)));
+    safe::minus(e, quarter)
+}
+
+// Limited to -8,191..8,191.
 fn limited(e: i32) -> i16 {
     if e < -8191 {
         return -8191;
@@ -93,13 +100,13 @@ fn limited(e: i32) -> i16 {
     e as i16
 }
 
-// What a pass is told of its sections: the extrinsics of the pass before, and 0 of the tail.
+// What a pass is told of its sections: three quarters of the extrinsics of the pass before, limited, and 0 of the tail.
 fn told(ordered: bool, bits: usize, pattern: &[u32], before: Soft) -> [i16; 16] {
     let mut xs = [0i16; 16];
     let mut k: usize = 0;
     while k < bits {
         let from = place(ordered, pattern, k) % 16;
-        xs[k % 16] = limited(before.extrinsics[from]);
+        xs[k % 16] = limited(three_quarters(before.extrinsics[from]));
         k += 1;
     }
     xs

@@ -128,15 +128,23 @@ fn print_tables() {
     safe::end(two_states(2, 1, b"\x00\x01\x00\x01", b"\x00\x03\x00\x03"));
 }
 
-// Next state = input: the tail is forced, and the message is not.
-fn print_follower() {
-    let heard: [i16; 7] = [4, -1, 2, -3, 5, 6, 7];
+// Next state = input: the tail is forced, and the message is not. What pass 1 hands over is of parity 1 alone; pass 2 adds systematic 4 and its own
+// extrinsic, 2.
+fn print_handed(parity1: i16) {
+    let heard: [i16; 7] = [4, parity1, 2, -3, 5, 6, 7];
     let s = answer::right(2, 2, 1, 1);
+    print_one(one_bit(s, b"\x00\x01\x00\x01", b"\x00\x03\x00\x03", 7, &heard));
+}
+
+fn print_follower() {
     io::write_all(
         1,
-        b"next state = input, T 1: bit, margin, extrinsic and reply\n",
+        b"next state = input, T 1, parity 1 of -1, 7, -7 and 1023: bit, margin, extrinsic and reply\n",
     );
-    print_one(one_bit(s, b"\x00\x01\x00\x01", b"\x00\x03\x00\x03", 7, &heard));
+    print_handed(-1);
+    print_handed(7);
+    print_handed(-7);
+    print_handed(1023);
 }
 
 // A frame of no values.

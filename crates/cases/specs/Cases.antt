@@ -122,7 +122,7 @@ cases =
     -- P2
     ∷ sheet
     (bytes "at to sys par par2 sys2\n0 0 -3 5 - -\n1 - 2 -4 1 -6\n2 - 1 7 3 4\n")
-    (bytes "at bit margin extrinsic\n0 1 13 1\n")
+    (bytes "at bit margin extrinsic\n0 1 9 1\n")
     -- P3
     ∷ lonePass
     (record { table = follower; sections = 2; values = record { channel = pos 3 ∷ negsuc 6 ∷ []; apriori = pos 1 ∷ pos 0 ∷ [] } })

@@ -4,8 +4,9 @@ use mathlib.Core.Bool.{Bool, not, _&&_, _||_}
 use mathlib.Core.List.{List, [], _∷_, _++_, map}
 use Prim.Native.Nat.{ℕ, zero, suc, _+_, _*_, _-_}
 use lib.Dec.{eqb, leb}
-use lib.IntN.{ℤ, pos, negsuc}
+use lib.IntN.{ℤ, pos, negsuc, _*ℤ_}
 use lib.ListN.{length, getD, take, drop, replicate}
+use lib.Signed.{quotZ}
 use Rattle.integers.specs.Integers.{limited}
 use Rattle.lists.specs.Lists.{joined, any, upto}
 use Rattle.refusal.specs.declared.Refusal.the-variants.{Shape, Branch, Length, Lists, Pattern, Mask, Iterations, Coder, NoPath, ForcedPosition}
@@ -20,9 +21,9 @@ use Rattle.frame.specs.Frame.{Frame, sections, sizesFit, masksFit, codes, frame
 
 -- ---- the rules of handing over and of deciding
 
--- an extrinsic as the other pass's a-priori value: limited to -8,191..8,191
+-- an extrinsic as the other pass's a-priori value: three quarters of it, rounded towards zero, then limited to -8,191..8,191
 unfoldable pub handOver : ℤ → ℤ
-handOver e = limited aprioriLimit e
+handOver e = limited aprioriLimit (quotZ (pos 3 *ℤ e) (pos 4))
 
 -- the bit of a margin: 0 or more is bit 1
 unfoldable pub decided : ℤ → ℕ

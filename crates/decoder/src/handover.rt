@@ -7,17 +7,19 @@ ghost use Rattle.frame.specs.Interleaver.{interleave, deinterleave};
 ghost use Rattle.frame.specs.laws.Interleaving.{Permutes};
 ghost use Rattle.decoder.specs.Decoder.{handOver};
 
-// An extrinsic limited to -8,191..8,191.
+// Three quarters of an extrinsic, rounded towards zero, then limited to -8,191..8,191. 64 bits hold three times any e.
 fn handed(e: i32) -> i16
     ensures { λ r. ⌜ r ≡ handOver e ⌝ }
 {
-    if e < -8191 {
+    let wide = e as i64;
+    let scaled = 3 * wide / 4;
+    if scaled < -8191 {
         return -8191;
     }
-    if 8191 < e {
+    if 8191 < scaled {
         return 8191;
     }
-    e as i16
+    scaled as i16
 }
 
 // From pass 1 to pass 2: out[i] is what xs[pattern[i]] hands over.

@@ -1,5 +1,5 @@
 // Sheets with their answers written out. D1 to D11 number the sentences of document 01 that can be read in two ways; each says the reading. L are
-// the lines that document 02 asks for beside 6.
+// the lines that document 02 asks for beside 6, and H what it hands over.
 use crate::sheet_faults::sized;
 use crate::sheets::{text, HEADER};
 
@@ -9,7 +9,7 @@ const R0: &str = "0 0 -3 5 - -";
 const R1: &str = "1 - 2 -4 1 -6";
 const R2: &str = "2 - 1 7 3 4";
 
-const RESULT: &str = "at bit margin extrinsic\n0 1 13 1\n";
+const RESULT: &str = "at bit margin extrinsic\n0 1 9 1\n";
 const TEXT_0: &str = "refused line\n1 0\n";
 const TEXT_1: &str = "refused line\n1 1\n";
 const TEXT_2: &str = "refused line\n1 2\n";
@@ -55,6 +55,11 @@ fn nothing_sent(bits: usize) -> Vec<u8> {
     let messages = (0..bits).map(|k| format!("{k} {k} - - - -"));
     let tails = (bits..bits + 2).map(|k| format!("{k} - 0 0 0 0"));
     text(&[HEADER.to_string()].into_iter().chain(messages).chain(tails).collect::<Vec<_>>())
+}
+
+// One message bit and tails of zeros: pass 1's extrinsic is parity 1, and pass 2's parity 2.
+fn handing(parity1: i32, parity2: i32) -> Vec<u8> {
+    rows(&[&format!("0 0 - {parity1} {parity2} -"), "1 - 0 0 0 0", "2 - 0 0 0 0"])
 }
 
 const AT: usize = 0;
@@ -226,4 +231,10 @@ pub const CASES: &[Case] = &[
     ("D11 nothing sent", || nothing_sent(1), "at bit margin extrinsic\n0 1 0 0\n"),
     ("D11 only systematic values, in message order", || rows(&["0 1 5 0 0 -", "1 2 -7 0 0 -", "2 0 9 0 0 -", "3 - 0 0 0 0", "4 - 0 0 0 0"]),
         "at bit margin extrinsic\n0 1 5 0\n1 0 -7 0\n2 1 9 0\n"),
+
+    // H: three quarters of parity 1 handed on, multiplied before it is divided and rounded towards zero. What is written is whole
+    ("H -1 hands over 0", || handing(-1, 0), "at bit margin extrinsic\n0 1 0 0\n"),
+    ("H 7 hands over 5", || handing(7, 0), "at bit margin extrinsic\n0 1 5 0\n"),
+    ("H -7 hands over -5", || handing(-7, 0), "at bit margin extrinsic\n0 0 -5 0\n"),
+    ("H 7 is written", || handing(0, 7), "at bit margin extrinsic\n0 1 7 7\n"),
 ];

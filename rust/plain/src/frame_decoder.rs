@@ -55,9 +55,10 @@ fn sorted_out(f: &Frame, received: &[i16]) -> Received {
     r
 }
 
-fn limited(e: i64) -> i16 {
+// Three quarters of an extrinsic, rounded towards zero, then limited.
+fn handed_over(e: i64) -> i16 {
     let limit = rules::APRIORI_LIMIT as i64;
-    e.clamp(-limit, limit) as i16
+    (3 * e / 4).clamp(-limit, limit) as i16
 }
 
 // The margins and extrinsics of the K message positions of a pass, in its own order. `handed` are its K a-priori values.
@@ -114,10 +115,10 @@ pub fn decode(call: &Call, lent: Lent) -> Result<Lists, Refused> {
     let mut last = Vec::new();
     for _ in 0..call.iterations {
         let first = soft(f, &channel1, &handed_back)?;
-        let handed_on: Vec<i16> = pattern.iter().map(|&p| limited(first[p].1)).collect();
+        let handed_on: Vec<i16> = pattern.iter().map(|&p| handed_over(first[p].1)).collect();
         last = soft(f, &channel2, &handed_on)?;
         for (i, &p) in pattern.iter().enumerate() {
-            handed_back[p] = limited(last[i].1);
+            handed_back[p] = handed_over(last[i].1);
         }
     }
 

@@ -21,14 +21,14 @@ fn p1_margins_and_extrinsics() {
 #[test]
 fn p2_one_bit() {
     let said = decode(&house_frame(1, 2, &[6]), &[-3, 5, 2, -4, 1, 7, -6, 1, 4, 3], 8).unwrap();
-    assert_eq!((said.bits, said.margins, said.extrinsics), (vec![1], vec![13], vec![1]));
+    assert_eq!((said.bits, said.margins, said.extrinsics), (vec![1], vec![9], vec![1]));
 }
 
 const P2: &[u8] = b"at to sys par par2 sys2\n0 0 -3 5 - -\n1 - 2 -4 1 -6\n2 - 1 7 3 4\n";
 
 #[test]
 fn p2_as_a_sheet() {
-    assert_eq!(sheet(P2), b"at bit margin extrinsic\n0 1 13 1\n");
+    assert_eq!(sheet(P2), b"at bit margin extrinsic\n0 1 9 1\n");
 }
 
 #[test]
@@ -41,11 +41,11 @@ fn refused_sheets() {
 
 #[test]
 fn a_list_without_room_for_the_answer() {
-    let mut answer = [7; 33];
-    assert_eq!(raw::sheet(P2, &mut answer[..32]), 0);
-    assert_eq!(answer, [7; 33]);
-    assert_eq!(raw::sheet(P2, &mut answer), 33);
-    assert_eq!(&answer, b"at bit margin extrinsic\n0 1 13 1\n");
+    let mut answer = [7; 32];
+    assert_eq!(raw::sheet(P2, &mut answer[..31]), 0);
+    assert_eq!(answer, [7; 32]);
+    assert_eq!(raw::sheet(P2, &mut answer), 32);
+    assert_eq!(&answer, b"at bit margin extrinsic\n0 1 9 1\n");
 }
 
 #[test]

@@ -6,6 +6,7 @@ use Prim.Native.Nat.{ℕ, zero, suc, _<_}
 use native.Mathlib.Omega.{arith}
 use lib.IntN.{ℤ, pos, negsuc, negℤ}
 use lib.Signed.{_≤ℤ_, _<ℤ_}
+use Rattle.integers.specs.Integers.{maxℤ, minℤ, limited}
 use Rattle.integers.specs.laws.Bounds.{Within}
 use Rattle.integers.specs.laws.Linear.{ints}
 use Rattle.integers.specs.laws.Laws.{limited-within}
@@ -21,6 +22,11 @@ handed-keeps-sign (suc b) e = simp ints (omega arith)
 pub handed-within : (e : ℤ) → Within aprioriLimit (handOver e)
 unfolding handOver
 handed-within e = limited-within aprioriLimit _
+
+-- the rule computed: rounded towards zero, multiplied before it is divided, scaled before it is limited
+pub handed-computes : (handOver (negsuc 0) ≡ pos 0) × (handOver (pos 7) ≡ pos 5) × (handOver (pos 10000) ≡ pos 7500)
+unfolding handOver limited maxℤ minℤ
+handed-computes = (refl, refl, refl)
 
 pub decided-is : (b : ℕ) (m : ℤ) → b < 2 → pos 0 <ℤ signed b m → decided m ≡ b
 unfolding decided signed

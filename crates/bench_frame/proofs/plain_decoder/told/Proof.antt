@@ -17,11 +17,14 @@ loop-holds c = search needs
 place-requires : tie.Need-place-requires Inv-loop μ-loop
 place-requires c κs = search needs
 
-mul-limited : tie.Need-mul-limited Inv-loop μ-loop
-mul-limited c = search needs
+mul-three-quarters : tie.Need-mul-three-quarters Inv-loop μ-loop
+mul-three-quarters c = search needs
 
-element-copy-out-limited : tie.Need-element-copy-out-limited Inv-loop μ-loop
-element-copy-out-limited c = search needs
+element-copy-out-three-quarters : tie.Need-element-copy-out-three-quarters Inv-loop μ-loop
+element-copy-out-three-quarters c = search needs
+
+three-quarters-requires : tie.Need-three-quarters-requires Inv-loop μ-loop
+three-quarters-requires c κs = search needs
 
 limited-requires : tie.Need-limited-requires Inv-loop μ-loop
 limited-requires c κs = search needs
@@ -52,8 +55,9 @@ told-spec =
     μ-loop
     loop-holds
     place-requires
-    mul-limited
-    element-copy-out-limited
+    mul-three-quarters
+    element-copy-out-three-quarters
+    three-quarters-requires
     limited-requires
     mul-xs
     array-set-from-xs
