@@ -49,7 +49,7 @@ unfoldable pub patternAt : Frame → ℕ → ℕ
 patternAt f k = getD (f .pattern) k 0
 
 -- the passes of n iterations, `first i` pass 1 and `second i` pass 2 of iteration i, where r has a value for every place of the frame. The very
--- first pass has the a-priori values 0. Then each pass has the other's extrinsics, limited and put in its own order: pass 2's position k is
+-- first pass has the a-priori values 0. Then each pass has what the other's extrinsics hand over, put in its own order: pass 2's position k is
 -- message position pattern(k)
 pub record AreIterations (f : Frame) (r : List ℤ) (n : ℕ) (first second : ℕ → Pass) : Type 0 where
   pub pass-1 : (i : ℕ) → i < n → IsPass f (channel1 f r) (first i)
