@@ -1,5 +1,6 @@
 -- The rules of handing over and of deciding, by the laws that proofs use: what is handed over keeps its sign or is 0 and stays within the
--- a-priori limit, and a margin that has its bit's sign is decided as that bit. No proof opens either rule but here.
+-- a-priori limit, and a margin that has its bit's sign is decided as that bit. The proof of demand 2 opens neither
+-- rule: it goes by these laws alone.
 -- Assumes nothing.
 use mathlib.Core.Path.{_≡_, refl}
 use Prim.Native.Nat.{ℕ, zero, suc, _<_}
