@@ -118,8 +118,8 @@ uint32_t turbo_encode(size_t states, size_t outputs,
  * The frame decoder.
  *
  *   received        the frame's list as channel values; what was not sent counts as 0
- *   iterations      1..32; each is a pass over the first coder, then one over the second. Each pass takes from the one before it three
- *                   quarters of every extrinsic, rounded towards zero and limited to -8191..8191
+ *   iterations      1..32; each is a pass over the first coder, then one over the second. Each pass but the very first takes from the one
+ *                   before it three quarters of every extrinsic, rounded towards zero and limited to -8191..8191
  *   decided         K entries written: 1 where the margin is 0 or more, else 0
  *   margins         K entries written, from the last pass, in message order
  *   extrinsics      the same; whole, neither scaled nor limited
