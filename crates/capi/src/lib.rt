@@ -15,7 +15,8 @@ ghost use Rattle.coder.specs.Coder.{encode as encoded};
 ghost use Rattle.coder.specs.Lent.{encodeOf};
 ghost use Rattle.decoder.specs.Decoder.{decode as decoded};
 ghost use Rattle.decoder.specs.Lent.{callOf, lentOf};
-ghost use Rattle.sheet.specs.Sheet.{answer as answerTo};
+ghost use Rattle.sheet.specs.Sheet.{answer as answerTo, FitsPage};
+ghost use Rattle.hints.specs.Hints.{hint, hintOf};
 ghost use Rattle.capi.specs.Returned.{returned, indexed, loneReturned, encodeReturned, decodeReturned};
 ghost use Rattle.capi.specs.Returned.{tapsReturned, patternReturned, written};
 use refusal::Refusal;
@@ -154,7 +155,7 @@ pub extern "C" fn turbo_decode(
     tell(reply, index)
 }
 
-// The sheet. An answer always has bytes, so 0 says that the list has no room for it.
+// The sheet. An answer has from 1 to 24,600 bytes, so 0 says that the list has no room for it, and one of 24,600 entries always has.
 #[no_mangle]
 pub extern "C" fn turbo_sheet(sheet: &[u8], out: &mut [u8]) -> usize
     ensures { λ r. ⌜ r ≡ cond (leb (length (answerTo (now (sheet .entry)))) (length (now (out .entry))))
@@ -162,8 +163,19 @@ pub extern "C" fn turbo_sheet(sheet: &[u8], out: &mut [u8]) -> usize
     ensures { λ _. ⌜ now (out .exit) ≡ cond (leb (length (answerTo (now (sheet .entry)))) (length (now (out .entry))))
         (answerTo (now (sheet .entry)) ++ drop (length (answerTo (now (sheet .entry)))) (now (out .entry)))
         (now (out .entry)) ⌝ }
+    ensures { λ _. ⌜ FitsPage (answerTo (now (sheet .entry))) ⌝ }
 {
     sheet::answer(sheet, out)
+}
+
+// What is easy to see of a sheet that is refused by 1: the hint's number, and its line, which is always written.
+#[no_mangle]
+pub extern "C" fn turbo_hint(sheet: &[u8], line: &mut u64) -> u32
+    ensures { λ r. ⌜ hint r (now (line .exit)) ≡ hintOf (now (sheet .entry)) ⌝ }
+{
+    let seen = hints::find(sheet);
+    *line = seen.line as u64;
+    seen.kind
 }
 
 // Eight entries to a list of eight; any other list is refused and stays as it was.

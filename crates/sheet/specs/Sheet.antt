@@ -3,7 +3,7 @@
 use mathlib.Core.Bool.{Bool, cond, _&&_}
 use mathlib.Core.List.{List, [], _∷_, _++_, dropLast, getLastD}
 use mathlib.Core.Option.{Option, none, some, Option·getD, Option·elim, orElse}
-use Prim.Native.Nat.{ℕ, zero, suc, _+_, _-_, _*_}
+use Prim.Native.Nat.{ℕ, zero, suc, _+_, _-_, _*_, _≤_}
 use lib.Dec.{leb, ltb}
 use lib.IntN.{ℤ, pos}
 use lib.ListN.{length, getD, replicate}
@@ -147,3 +147,8 @@ unfoldable pub answer : List ℕ → List ℕ
 answer sheet =
     let result = decode (callOf sheet) (lentFor sheet) in
     printed (textReply sheet then valueReply sheet then result .reply) (result .lists)
+
+-- a text that is not empty and fits on a page, as every answer does
+pub record FitsPage (text : List ℕ) : Type 0 where
+  pub some : 1 ≤ length text
+  pub few : length text ≤ 24600

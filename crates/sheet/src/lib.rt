@@ -4,7 +4,7 @@ ghost use mathlib.Core.List.{_++_};
 ghost use mathlib.Core.Path.{_≡_};
 ghost use lib.Dec.{leb};
 ghost use lib.ListN.{length, drop};
-ghost use Rattle.sheet.specs.Sheet.{answer as answerTo};
+ghost use Rattle.sheet.specs.Sheet.{answer as answerTo, FitsPage};
 ghost use Rattle.sheet.specs.laws.Printing.{Wrote};
 
 mod decoding;
@@ -80,13 +80,14 @@ fn deliver(bytes: &[u8], out: &mut [u8]) -> usize
     print::put(out, 0, bytes)
 }
 
-// The answer to a sheet: its bytes, and how many they are; nothing where the list has no room for them.
+// The answer to a sheet: its bytes, and how many they are; nothing where the list has no room for them. A list of 24,600 entries always has.
 pub fn answer(sheet: &[u8], out: &mut [u8]) -> usize
     ensures { λ r. ⌜ r ≡ cond (leb (length (answerTo (now (sheet .entry)))) (length (now (out .entry))))
         (length (answerTo (now (sheet .entry)))) 0 ⌝ }
     ensures { λ _. ⌜ now (out .exit) ≡ cond (leb (length (answerTo (now (sheet .entry)))) (length (now (out .entry))))
         (answerTo (now (sheet .entry)) ++ drop (length (answerTo (now (sheet .entry)))) (now (out .entry)))
         (now (out .entry)) ⌝ }
+    ensures { λ _. ⌜ FitsPage (answerTo (now (sheet .entry))) ⌝ }
 {
     let mut page = blank_page();
     let n = write_answer(&mut page, sheet);

@@ -7,6 +7,7 @@ use lib.ListN.{length, take}
 use lib.Seq.{length-take-le}
 use borrow.Author.Needs.{needs}
 use Rattle.sheet.specs.Sheet.{answer}
+use Rattle.sheet.specs.laws.Printing.{answer-fits-page}
 use Rattle.sheet.proofs.answer.Statement.{statement}
 use Rattle.sheet.proofs.answer.Tie as tie
 
@@ -41,7 +42,10 @@ returns c =
     let wrote = call .before .before .before .before in
     let start = wrote .before .before .before .before .before in
     let is : take (wrote .write-answer .result) (wrote .write-answer .last .0) ≡ answer (start .args .sheet .now) = wrote .write-answer .ensures .is in
-    rw is at (call .deliver .ensures)
+    let given = rw is at (call .deliver .ensures) in
+    let page = wrote .write-answer in
+    let room : length (page .last .0) ≡ 24600 = omega (arith, page .kept .0, wrote .before .before .blank-page .ensures) in
+    (given .0, (given .1, answer-fits-page _ _ _ _ room (page .ensures)))
 
 pub answer-spec : {M : Type 1} → statement M
 answer-spec =

@@ -1,20 +1,25 @@
 -- What is written to a page, text after text, and the answer's texts by their numbers.
 -- Assumes nothing.
 use mathlib.Core.Path.{_≡_, refl, ap, _∙_}
+use mathlib.Core.Bool.{cond}
 use mathlib.Core.List.{List, [], _∷_, _++_, append-assoc}
 use Prim.Native.Nat.{ℕ, _+_, _≤_}
 use native.Mathlib.Omega.{arith}
+use lib.Dec.{leb}
 use lib.IntN.{ℤ, pos}
 use lib.ListN.{length, getD, take}
-use lib.Seq.{paste, take-paste, take-length}
+use lib.Seq.{paste, take-paste, take-length, length-take-le}
+use borrow.Author.Tests.{le-leb}
 use Rattle.lists.specs.Lists.{joined}
 use Rattle.lists.specs.laws.Listed.{joined-more, joined-ext}
 use Rattle.refusal.specs.declared.Refusal.{Refusal}
+use Rattle.refusal.specs.declared.Reply.{Reply}
+use Rattle.refusal.specs.declared.Reply.the-variants.{Done, Refused}
 use Rattle.refusal.specs.Refusals.{told}
 use Rattle.decoder.specs.Decoder.{DecodeLent}
 use Rattle.text.specs.Text.{bytes}
 use Rattle.text.specs.Decimal.{decimal}
-use Rattle.sheet.specs.Sheet.{refusalText, resultLine, resultText}
+use Rattle.sheet.specs.Sheet.{refusalText, resultLine, resultText, printed, answer, FitsPage}
 
 -- a text of at most `room` bytes stands at a place, and nothing before it has changed
 pub record Wrote (room : ℕ) (before : List ℕ) (at : ℕ) (text after : List ℕ) (end : ℕ) : Type 0 where
@@ -78,3 +83,23 @@ work-unseen l m e f g =
 pub refusal-is : (r : Refusal) → (bytes "refused line\n" ++ entry (pos (told r .number)) 32) ++ entry (pos (told r .place)) 10 ≡ refusalText r
 unfolding refusalText bytes decimal
 refusal-is r = simp append-assoc
+
+-- ---- every answer has a byte, and one that is written to a page fits on it
+
+printed-some : (r : Reply) (l : DecodeLent) → 1 ≤ length (printed r l)
+unfolding printed resultText refusalText bytes
+printed-some Done l = omega arith
+printed-some (Refused r) l = omega arith
+
+module _ (sheet before after : List ℕ) (end : ℕ) (room : length after ≡ 24600) where
+  pub answer-fits-page : Wrote 24600 before 0 (answer sheet) after end → FitsPage (answer sheet)
+  unfolding answer
+  answer-fits-page w =
+      let long = length-take-le end after (omega (arith, w .few)) in
+      record { some = printed-some _ _; few = omega (arith, w .few, long, ap length (w .is)) }
+
+-- a list of a page's length is never answered by 0
+pub room-enough : (text : List ℕ) (room r : ℕ) → FitsPage text → 24600 ≤ room → r ≡ cond (leb (length text) room) (length text) 0 → (1 ≤ r) × (r ≤ room)
+room-enough text room r fits long e =
+    let is : r ≡ length text = e ∙ rw (le-leb (length text) room (omega (arith, fits .few))) in
+    (omega (arith, fits .some), omega (arith, fits .few))

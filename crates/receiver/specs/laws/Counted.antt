@@ -1,0 +1,8 @@
+-- What reading promises: a whole input lies within its room, and none of it is lost.
+-- Assumes nothing.
+use Prim.Native.Nat.{ℕ, _≤_}
+use Rattle.receiver.specs.declared.input.Input.{Input}
+
+abbrev pub Counted : ℕ → ℕ → Input → Type 0
+Counted from room (Input.Whole n) = (from ≤ n) × (n ≤ room)
+Counted from room Input.Failed = Unit {0}
