@@ -8,13 +8,14 @@
 //!                               damaged calls for one; the patterns of all 2,686,700 polynomials with K up to 200, and 20,000 drawn and damaged
 //!                               ones up to 4,096; 20,000 frames over tables from taps; 1,024 sheets of every K, 515 with a fault in each line,
 //!                               16,383 with each set of loud values of a small sheet, 1,544 with each value of the largest loud, 35,000
-//!                               damaged ones
+//!                               damaged ones; hints on 40,000 drawn texts and 10,000 damaged sheets
 //!     compare --long            twenty times the calls
 //!     compare --seed N          other calls; the seed is printed
 //!     compare --only STAGE      one stage
 //!     compare --call STAGE I    one call again, by the index that a difference names
 mod calls;
 mod draw;
+mod hints;
 mod lent;
 mod sheet_cases;
 mod sheet_faults;
@@ -52,6 +53,8 @@ const DECODER: &[u32] = &[0, 2, 3, 4, 5, 6, 8, 9, 10, 11, 12, 13];
 const TABLE: &[u32] = &[0, 2, 15];
 const PATTERN: &[u32] = &[0, 4, 5, 8, 15];
 const SHEET: &[u32] = &[0, 1, 6, 8];
+// Hints have numbers of their own.
+const HINT: &[u32] = &[0, 1, 2, 3, 4, 5, 6, 7, 8, 9];
 
 const STAGES: &[Stage] = &[
     Stage { name: "house", calls: 21, run: |d, i| calls::house(d, i as usize), numbers: &[0, 5], once: true, ..EACH },
@@ -76,6 +79,8 @@ const STAGES: &[Stage] = &[
     Stage { name: "sheet-loud", calls: sheets::LOUD_SETS, run: sheets::loud_set, numbers: &[6], loud: 2..6, ..EACH },
     Stage { name: "sheet-loud-lines", calls: sheets::LOUD_PLACES, run: sheets::loud_place, numbers: &[6], loud: 2..516, ..EACH },
     Stage { name: "sheet-damaged", calls: 35_000, run: sheets::damaged, numbers: SHEET, lines: 0..9, loud: 2..9, ..EACH },
+    Stage { name: "hints", calls: 40_000, run: |d, _| hints::drawn(d), numbers: HINT, ..EACH },
+    Stage { name: "hints-damaged", calls: 10_000, run: hints::damaged, numbers: HINT, all: false, ..EACH },
 ];
 
 fn usage() -> ! {

@@ -45,7 +45,7 @@ pub fn lines(d: &mut Draw, bits: usize) -> Vec<String> {
 }
 
 // The number and the line that an answer tells.
-fn outcome(answer: &[u8]) -> (u32, usize) {
+pub fn outcome(answer: &[u8]) -> (u32, usize) {
     let answer = String::from_utf8_lossy(answer);
     match answer.strip_prefix("refused line\n").map(|rest| rest.trim_end().split_once(' ')) {
         None => (0, 0),
@@ -183,7 +183,7 @@ pub fn faulty(d: &mut Draw, line: usize) -> Answer {
 }
 
 // Each kind of fault in turn, some with another beside it.
-pub fn damaged(d: &mut Draw, index: u64) -> Answer {
+pub fn damaged_text(d: &mut Draw, index: u64) -> Vec<u8> {
     let bits = match d.below(40) {
         0 => d.size(1, 512),
         1..=5 => d.size(7, 40),
@@ -195,5 +195,10 @@ pub fn damaged(d: &mut Draw, index: u64) -> Answer {
     if d.chance(4) {
         d.of(kinds)(d, &mut sheet);
     }
+    sheet
+}
+
+pub fn damaged(d: &mut Draw, index: u64) -> Answer {
+    let sheet = damaged_text(d, index);
     by_plain(d, &sheet)
 }

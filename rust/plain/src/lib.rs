@@ -6,6 +6,7 @@
 
 pub mod coder;
 pub mod frame_decoder;
+pub mod hint;
 pub mod house;
 pub mod listing;
 pub mod lone;

@@ -3,22 +3,8 @@ use crate::mark::BELOW;
 use std::ffi::{OsStr, OsString};
 use std::path::PathBuf;
 
-pub const USAGE: &str = "\
-usage: shaft [--below X] [--all] [--csv FILE] [--svg FILE] FOLDER|FILE...
-
-Decodes many sheets received from one shaft and says where in the frame the feeder is weak.
-
-  FOLDER     every file of the folder but hidden ones; not its subfolders
-  FILE       a sheet; - is standard input
-  --below X  count a row as weak in a frame where it is heard below X (0.5 if not given)
-  --all      print every row, and not only the weakest
-  --csv FILE write every row of every decoded sheet; - is standard output, in place of the table
-  --svg FILE write a picture of all frames; - is standard output, in place of the table
-  --help     print this
-
-The status is 0 where every sheet was decoded, 1 where some were refused, and 2 where something could not be read or written.
-docs/SHAFT.md says what each column is.
-";
+/// The script `shaft` prints the same file.
+pub const USAGE: &str = include_str!("../usage.txt");
 
 /// What the command line asks for.
 #[derive(Debug, PartialEq)]

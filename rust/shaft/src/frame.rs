@@ -28,7 +28,7 @@ pub struct Frame {
 impl Frame {
     pub fn of(text: &[u8], sound_frames: &SoundFrames) -> Result<Frame, Refused> {
         match Answer::to(text) {
-            Answer::Refused { number, line } => Err(Refused { number, line, hint: hint(text) }),
+            Answer::Refused { number, line } => Err(Refused { number, line, hint: hint(number, text) }),
             Answer::Decoded { bits, margins, extrinsics } => {
                 let sheet = Sheet::of_decoded(text);
                 let loudness = Loudness::of(&sheet);

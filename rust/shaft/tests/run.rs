@@ -9,7 +9,7 @@ use std::os::unix::fs::symlink;
 use std::os::unix::net::UnixStream;
 use std::process::{Command, Stdio};
 
-const REFUSED_12: &str = "shaft: sheets/frame-12.txt: refused, number 1, line 1";
+const REFUSED_12: &str = "shaft: sheets/frame-12.txt: refused, number 1, line 1: line 1 has a carriage return: save it with line feeds alone (LF, not CR LF)";
 
 // A table as it is stored; with SHAFT_STORE set it is stored anew.
 fn same_as_stored(name: &str, table: &str) {

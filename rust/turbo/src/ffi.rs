@@ -1,4 +1,4 @@
-// The functions of crates/capi/src/lib.rt. Nothing checks these declarations against it: a slice is a pointer and a length, and `index`
+// The functions of crates/capi/src/lib.rt. Nothing checks these declarations against it: a slice is a pointer and a length, and `index` or `line`
 // a pointer alone.
 #[link(name = "capi", kind = "static")]
 extern "C" {
@@ -72,6 +72,8 @@ extern "C" {
     ) -> u32;
 
     pub fn turbo_sheet(sheet: *const u8, sheet_len: usize, answer: *mut u8, answer_len: usize) -> usize;
+
+    pub fn turbo_hint(sheet: *const u8, sheet_len: usize, line: *mut u64) -> u32;
 
     pub fn turbo_house_next(list: *mut u8, list_len: usize) -> u32;
 

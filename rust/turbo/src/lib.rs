@@ -2,13 +2,16 @@
 //!
 //! [`Table`] and [`Frame`] hold what coder and decoder agree on; a table may be built from a code's taps ([`Table::from_taps`]) and a pattern from a
 //! polynomial ([`polynomial_pattern`]). [`encode`], [`decode`] and [`lone_decode`] make every list that the library writes, of the right length;
-//! what is left to refuse is told as a [`Refusal`]. [`sheet`] answers a sheet's text with text. The library itself makes every check, so none is
-//! made twice and in another way here. [`raw`] has the same calls on the caller's own lists.
+//! what is left to refuse is told as a [`Refusal`]. [`sheet()`] answers a sheet's text with text, and [`hint()`] says what is easy to see of a text
+//! that is refused by 1. The library itself makes every check, so none is made twice and in another way here. [`raw`] has the same calls on the
+//! caller's own lists.
 
 mod ffi;
+mod hint;
 pub mod raw;
 mod refusal;
 
+pub use hint::{hint, Hint};
 pub use refusal::Refusal;
 
 /// A table: the branch of state s and input bit b stands at 2·s + b of its next states and of its words.
@@ -64,7 +67,7 @@ pub struct Frame {
     pub table: Table,
     /// The tail sections of each coder, 0..4.
     pub tail: usize,
-    /// The second coder's input i is message bit pattern[i].
+    /// The second coder's input i is message bit `pattern[i]`.
     pub pattern: Vec<u32>,
     /// 4·systematic + 2·parity 1 + parity 2, repeated over the message positions.
     pub masks: Vec<u8>,

@@ -138,6 +138,12 @@ pub fn sheet(sheet: &[u8], answer: &mut [u8]) -> usize {
     unsafe { ffi::turbo_sheet(sheet.as_ptr(), sheet.len(), answer.as_mut_ptr(), answer.len()) }
 }
 
+/// The number of a [`Hint`](crate::Hint) about a sheet's text; its line is always written.
+pub fn hint(sheet: &[u8], line: &mut u64) -> u32 {
+    // SAFETY: as above.
+    unsafe { ffi::turbo_hint(sheet.as_ptr(), sheet.len(), line) }
+}
+
 pub fn house_next(list: &mut [u8]) -> u32 {
     // SAFETY: as above.
     unsafe { ffi::turbo_house_next(list.as_mut_ptr(), list.len()) }

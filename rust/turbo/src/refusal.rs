@@ -3,7 +3,10 @@ use std::fmt;
 /// Why a call was refused, by the numbers of document 01's table and of document 02. Of the refusals that apply a call tells the least: they
 /// stand here in their order, which is that of their numbers but for 15 after 2 and 16 after 6, and of two values the one with the lower index
 /// comes first.
+///
+/// A later version may know more numbers.
 #[derive(Clone, Copy, Debug, PartialEq, Eq, Hash, PartialOrd, Ord)]
+#[non_exhaustive]
 pub enum Refusal {
     Text,
     Shape,

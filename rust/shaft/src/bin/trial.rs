@@ -1,9 +1,11 @@
 //! The trials behind docs/SHAFT.md, on shafts drawn by the seeded model.
 //!
-//!     trial weak      does margin, margin/sound, heard or the mark find one weak row? And how often is one and the same position the lowest
-//!                     margin of a sound shaft?
-//!     trial rule      other rules for marking: weak rows found, and sound rows marked falsely
-//!     trial time N    the library's own time for N answers, K = 64, on one thread
+//! ```text
+//! trial weak      does margin, margin/sound, heard or the mark find one weak row? And how often is one and the same position the lowest
+//!                 margin of a sound shaft?
+//! trial rule      other rules for marking: weak rows found, and sound rows marked falsely
+//! trial time N    the library's own time for N answers, K = 64, on one thread
+//! ```
 use shaft::frame::Frame;
 use shaft::group::{groups, Group, Position};
 use shaft::mark::{marked, BELOW};

@@ -11,6 +11,11 @@ cannot() {
     exit 2
 }
 
+# is_open N: descriptor N is open. The number of a closed one would be given to the next file that is opened
+is_open() {
+    { : 9>&"$1"; } 2>/dev/null
+}
+
 # fresh FILE CRATE: the file is there, and no code of the crate, or of one that it stands on, is newer. Definitions and proofs are no part of what is
 # built, so they are not looked at: this runs for every sheet.
 fresh() {

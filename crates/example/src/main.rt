@@ -1,0 +1,54 @@
+// Codes the message 1 and decodes a frame of one message bit with the house code.
+use refusal::Reply;
+
+// The message 1 with two tail sections, everything sent: 1 1 1, then 1 0 1 1 for each tail.
+fn send_one(sent: &mut [u8]) -> Reply {
+    let next = turbo::house_next();
+    let words = turbo::house_words();
+    turbo::encode(4, 2, &next, &words, 1, 2, &[1], &[0], &[7], sent)
+}
+
+// A frame with parity 2 unsent, after eight iterations: bit 1, margin 9, extrinsic 1.
+fn read_one(
+    bits: &mut [u8],
+    margins: &mut [i32],
+    extrinsics: &mut [i32],
+    work: &mut [i32],
+) -> Reply {
+    let next = turbo::house_next();
+    let words = turbo::house_words();
+    let received = [-3, 5, 2, -4, 1, 7, -6, 1, 4, 3];
+    turbo::decode(
+        4,
+        2,
+        &next,
+        &words,
+        1,
+        2,
+        &[0],
+        &[6],
+        &received,
+        8,
+        bits,
+        margins,
+        extrinsics,
+        work,
+    )
+}
+
+// A reply's number, 0 where the call is done, and what came of it.
+fn show(reply: Reply, bit: u8) {
+    io::print_decimal(1, refusal::number_of(reply) as u64);
+    io::write_all(1, b" ");
+    io::print_decimal(1, bit as u64);
+    io::write_all(1, b"\n");
+}
+
+fn main() {
+    let mut sent = [0; 11];
+    let reply = send_one(&mut sent);
+    show(reply, sent[4]);
+    let mut bits = [0; 1];
+    let reply = read_one(&mut bits, &mut [0; 1], &mut [0; 1], &mut [0; 16]);
+    show(reply, bits[0]);
+}
