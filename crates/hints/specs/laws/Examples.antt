@@ -1,10 +1,9 @@
 -- The definition on texts that go wrong in each way.
 -- Assumes nothing.
 use mathlib.Core.Path.{_≡_, refl}
-use mathlib.Core.List.{List, [], _∷_, _++_, map}
-use Rattle.lists.specs.Lists.{listed, count, isEmpty}
+use mathlib.Core.List.{[], _∷_, map}
+use Rattle.lists.specs.Lists.{count, isEmpty}
 use Rattle.text.specs.Text.{bytes, onFirst, cut, same}
-use Rattle.hints.specs.declared.Hint.{Hint}
 use Rattle.hints.specs.Hints.{hint, lineOf, startsWith, isWide, spaceAt, lastLine, lineHint, hintOf}
 
 pub hints-compute : map hintOf

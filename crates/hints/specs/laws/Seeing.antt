@@ -1,7 +1,7 @@
 -- The definitions of hints by their parts, as the code goes through a text.
 -- Assumes nothing.
-use mathlib.Core.Path.{_≡_, refl, sym, ap, _∙_}
-use mathlib.Core.Bool.{Bool, true, false, cond, _&&_, _||_}
+use mathlib.Core.Path.{_≡_, refl, _∙_}
+use mathlib.Core.Bool.{Bool, true, false, cond, _&&_}
 use mathlib.Core.List.{List, [], _∷_}
 use Prim.Native.Nat.{ℕ, zero, suc, _+_, _-_, _≤_, _<_}
 use native.Mathlib.Nat.{add-zero}
@@ -9,14 +9,12 @@ use native.Mathlib.Numerals.{add-one}
 use native.Mathlib.Omega.{arith}
 use lib.Dec.{eqb}
 use lib.ListN.{length, getD, take, drop, drop-of-length-le}
-use lib.Seq.{drop-cons, getD-drop, length-take-le}
-use borrow.Author.Tests.{eq-eqb, ne-eqb}
+use lib.Seq.{drop-cons, getD-drop}
 use Rattle.lists.specs.Lists.{count, isEmpty}
 use Rattle.lists.specs.laws.Counts.{count-take}
-use Rattle.text.specs.Text.{lineFeed, same}
+use Rattle.text.specs.Text.{lineFeed}
 use Rattle.text.specs.laws.Comparing.{same-lengths}
-use Rattle.hints.specs.declared.Hint.{Hint}
-use Rattle.hints.specs.Hints.{hint, lineOf, startsWith, isWide, spaceAt, lastLine}
+use Rattle.hints.specs.Hints.{startsWith, spaceAt}
 
 -- what stands for no entry doesn't matter inside the list
 pub inside : (xs : List ℕ) (i d e : ℕ) → i < length xs → getD xs i d ≡ getD xs i e

@@ -1,8 +1,12 @@
+-- `read_sheet` counts what it has read. Invariant: that lies within the room, whose length stays. Each turn reads at least a byte.
+-- Assumes nothing.
 use mathlib.Core.Path.{_≡_}
 use Prim.Native.Nat.{_≤_, _-_}
 use native.Mathlib.Omega.{arith}
 use lib.ListN.{length}
 use borrow.Author.Needs.{needs}
+use Rattle.receiver.specs.declared.input.Input.{Input}
+use Rattle.receiver.specs.laws.Counted.{Counted}
 use Rattle.receiver.proofs.input.read_sheet.Statement.{statement}
 use Rattle.receiver.proofs.input.read_sheet.Tie as tie
 
@@ -11,6 +15,11 @@ Inv-loop buf₀ done₀ buf done = (length buf ≡ length buf₀) × (done ≤ l
 
 abbrev μ-loop : tie.MeasureT-loop
 μ-loop buf₀ done₀ buf done = length buf - done
+
+-- what a read that did not fail has counted
+counted : (c : tie.After-known-told Inv-loop μ-loop) → Counted (c .before .before .before .before .before .before .before .before .loop .done)
+    (length (c .before .before .before .before .before .before .before .before .loop .buf)) (Input.Whole (c .before .got .given .0 .0))
+counted c = rw (c .before .got .given .1) at (c .before .before .before .before .before .read-on .ensures)
 
 loop-holds : tie.Need-loop-holds Inv-loop μ-loop
 loop-holds c = search needs
@@ -37,18 +46,10 @@ returns-2 : tie.Need-returns-2 Inv-loop μ-loop
 returns-2 c = search needs
 
 loop-less : tie.Need-loop-less Inv-loop μ-loop
-loop-less c =
-    let got = c .before .before in
-    let call = got .before .before .before .before in
-    let counted = rw (got .got .given .1) at (call .read-on .ensures) in
-    omega (arith, counted .0, counted .1, c .if1 .left)
+loop-less c = let read = counted (c .before) in omega (arith, read .0, read .1, c .if1 .left)
 
 loop-again : tie.Need-loop-again Inv-loop μ-loop
-loop-again c =
-    let got = c .before .before in
-    let call = got .before .before .before .before in
-    let counted = rw (got .got .given .1) at (call .read-on .ensures) in
-    omega (arith, counted .0, counted .1)
+loop-again c = let read = counted (c .before) in omega (arith, read .0, read .1)
 
 same-length-3 : tie.Need-same-length-3 Inv-loop μ-loop
 same-length-3 c = search needs
