@@ -151,7 +151,7 @@ fn last_line(text: &[u8]) -> Hint
     }
 }
 
-// The first line that shows something.
+// What the lines show, each kind looked for in turn.
 fn line_hint(text: &[u8]) -> Hint
     requires { ⌜ 1 ≤ length (now text) ⌝ }
     ensures { λ r. ⌜ r ≡ lineHint (now (text .entry)) ⌝ }

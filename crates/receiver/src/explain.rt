@@ -86,7 +86,7 @@ fn value_refused(line: &[u8]) {
     );
 }
 
-// The words for the refusal that is the answer to a sheet.
+// The words for the refusal that is the answer to a sheet: 1, 6, or else 8.
 pub fn refusal(sheet: &[u8], answer: &[u8]) {
     let gap = text::next_at(answer, 13, b' ');
     if answer.len() <= gap {

@@ -9,7 +9,7 @@ pub enum Input {
     Failed,
 }
 
-// One more read, to `from` on: how many bytes there are after it.
+// One more read, to the room from `from` on: how many bytes are in it then, or that the read failed.
 fn read_on(buf: &mut [u8], from: usize) -> Input
     requires { ⌜ from ≤ length (now buf) ⌝ }
     ensures { λ r. ⌜ Counted from (length (now (buf .entry))) r ⌝ }

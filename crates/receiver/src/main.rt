@@ -18,7 +18,7 @@ fn room() -> [u8; 16385]
     [0; 16385]
 }
 
-// Room for the longest answer.
+// Room for every answer.
 fn page() -> [u8; 24600]
     ensures { λ r. ⌜ 24600 ≡ length r ⌝ }
 {

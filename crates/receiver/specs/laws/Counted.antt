@@ -1,4 +1,4 @@
--- What reading promises: a whole input lies within its room, and none of it is lost.
+-- What reading promises of its count: it lies within the room, and does not fall.
 -- Assumes nothing.
 use Prim.Native.Nat.{ℕ, _≤_}
 use Rattle.receiver.specs.declared.input.Input.{Input}
