@@ -20,7 +20,7 @@
 static const char *what_to_look_at(uint32_t number)
 {
     switch (number) {
-    case TURBO_SHAPE: return "the numbers of states and outputs, and the lengths of the table's lists";
+    case TURBO_SHAPE: return "the numbers of states and outputs, the lengths of the table's lists, and the ends";
     case TURBO_BRANCH: return "the table's next states and words";
     case TURBO_LENGTH: return "the number of sections, or of message bits and tail sections";
     case TURBO_LISTS: return "the lengths of the lists";
@@ -52,8 +52,8 @@ static int32_t margins[K], extrinsics[K];
 static uint32_t decode(const int16_t *received, uint64_t *index)
 {
     int32_t work[(K + T + 1) * STATES];
-    return turbo_decode(STATES, 2, next, LEN(next), words, LEN(words), K, T, pattern, LEN(pattern), masks, LEN(masks), received, FRAME, 8, bits,
-                        LEN(bits), margins, LEN(margins), extrinsics, LEN(extrinsics), work, LEN(work), index);
+    return turbo_decode(STATES, 2, next, LEN(next), words, LEN(words), TURBO_ZERO, TURBO_ZERO, K, T, pattern, LEN(pattern), masks, LEN(masks),
+                        received, FRAME, 8, bits, LEN(bits), margins, LEN(margins), extrinsics, LEN(extrinsics), work, LEN(work), index);
 }
 
 int main(void)
@@ -68,8 +68,8 @@ int main(void)
 
     if (refused("turbo_house_next", turbo_house_next(next, LEN(next)))) return 1;
     if (refused("turbo_house_words", turbo_house_words(words, LEN(words)))) return 1;
-    if (refused("turbo_encode", turbo_encode(STATES, 2, next, LEN(next), words, LEN(words), K, T, message, LEN(message), pattern, LEN(pattern),
-                                             masks, LEN(masks), sent, LEN(sent))))
+    if (refused("turbo_encode", turbo_encode(STATES, 2, next, LEN(next), words, LEN(words), TURBO_ZERO, TURBO_ZERO, K, T, message, LEN(message),
+                                             pattern, LEN(pattern), masks, LEN(masks), sent, LEN(sent))))
         return 1;
 
     for (i = 0; i < FRAME; i++) received[i] = sent[i] ? 40 : -40;

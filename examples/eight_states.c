@@ -48,16 +48,16 @@ int main(void)
     if (refused("turbo_polynomial_pattern", turbo_polynomial_pattern(K, F1, F2, pattern, LEN(pattern)))) return 1;
 
     for (i = 0; i < K; i++) message[i] = text[i / 8] >> (7 - i % 8) & 1;
-    if (refused("turbo_encode", turbo_encode(STATES, 2, next, LEN(next), words, LEN(words), K, T, message, LEN(message), pattern, LEN(pattern),
-                                             masks, LEN(masks), sent, LEN(sent))))
+    if (refused("turbo_encode", turbo_encode(STATES, 2, next, LEN(next), words, LEN(words), TURBO_ZERO, TURBO_ZERO, K, T, message, LEN(message),
+                                             pattern, LEN(pattern), masks, LEN(masks), sent, LEN(sent))))
         return 1;
 
     for (i = 0; i < FRAME; i++) received[i] = sent[i] ? 40 : -40;
     for (i = 0; i < FRAME; i += 9) received[i] = (int16_t)(-received[i] / 2);
 
-    if (refused("turbo_decode", turbo_decode(STATES, 2, next, LEN(next), words, LEN(words), K, T, pattern, LEN(pattern), masks, LEN(masks), received,
-                                             LEN(received), 8, bits, LEN(bits), margins, LEN(margins), extrinsics, LEN(extrinsics), work, LEN(work),
-                                             &index)))
+    if (refused("turbo_decode", turbo_decode(STATES, 2, next, LEN(next), words, LEN(words), TURBO_ZERO, TURBO_ZERO, K, T, pattern, LEN(pattern),
+                                             masks, LEN(masks), received, LEN(received), 8, bits, LEN(bits), margins, LEN(margins), extrinsics,
+                                             LEN(extrinsics), work, LEN(work), &index)))
         return 1;
 
     printf("at bit margin extrinsic\n");

@@ -19,6 +19,9 @@
  * Table. S states (1..16) and n outputs (1..4). The branch of state s and input bit b stands at 2*s + b of `next` (the next state, below S) and
  * of `words` (below 2^n; output l, counted from 1, is bit l-1). A table is systematic when output 1 of every branch is its input bit.
  *
+ * End. The paths of a pass, and of a coder, are those that its end admits: zero from state 0 to state 0, open from state 0 to any state, ring from any
+ * state back to the same one. A ring's best metric is over all the states that a path may start in.
+ *
  * Signs. A value above 0 speaks for bit 1. Channel values are -1023..1023, a-priori values -8191..8191.
  */
 #ifndef TURBO_FRAME_RECEIVER_H
@@ -43,7 +46,8 @@ extern "C" {
 enum turbo_reply {
     TURBO_DONE = 0,
     TURBO_TEXT = 1,             /* the text of a sheet; only in the answer of turbo_sheet, and returned by no call */
-    TURBO_SHAPE = 2,            /* states outside 1..16, outputs outside 1..4, or a table list without two entries a state */
+    TURBO_SHAPE = 2,            /* an end other than 0, 1 or 2, whatever else applies; states outside 1..16, outputs outside 1..4, or a table list
+                                   without two entries a state */
     TURBO_POLYNOMIAL = 15,      /* stands after 2: memory outside 1..4, taps not below 2^(memory+1), even feedback; or f1 or f2 not below bits */
     TURBO_BRANCH = 3,           /* a next state not below the number of states, or a word not below 2^outputs */
     TURBO_LENGTH = 4,           /* sections outside 1..4096; bits 0, tail above 4, or bits + tail above 4096; or a polynomial's bits above 4096 */
@@ -55,14 +59,24 @@ enum turbo_reply {
     TURBO_MASK = 9,             /* no mask, more than 16, or one above 7 */
     TURBO_ITERATIONS = 10,      /* iterations outside 1..32 */
     TURBO_CODER = 11,           /* the table of a frame is not systematic, or has not two outputs */
-    TURBO_NO_PATH = 12,         /* decoders: no path of that many sections leads from state 0 to state 0; more tail sections may help */
-    TURBO_FORCED_POSITION = 13, /* frame decoder: all paths have the same bit at some message position; more tail sections may help */
-    TURBO_NO_TAIL = 14          /* coder: no inputs of the tail lead a coder back to state 0; more tail sections may help */
+    TURBO_NO_PATH = 12,         /* decoders: the end admits no path of that many sections; of a frame, that of either coder */
+    TURBO_FORCED_POSITION = 13, /* frame decoder: all paths of either coder have the same bit at some message position */
+    TURBO_NO_TAIL = 14          /* coder: no inputs of the tail lead a coder that ends at zero back to state 0, or no state is one that the inputs of a ring
+                                   return to itself */
+    /* Of a coder that ends at zero, more tail sections may help against 12, 13 and 14. An open one gives none of them. */
+};
+
+/* How a coder, or the paths of a lone pass, end. */
+enum turbo_end {
+    TURBO_ZERO = 0,
+    TURBO_OPEN = 1,
+    TURBO_RING = 2
 };
 
 /*
  * The lone decoder: one pass over any table.
  *
+ *   end             an enum turbo_end; a ring costs as many sweeps over its sections as there are states, the others one
  *   sections        N, 1..4096
  *   channel         n*N values; output l of section k, counted from 0, at n*k + l-1
  *   apriori         N values
@@ -78,6 +92,7 @@ enum turbo_reply {
 uint32_t turbo_lone_decode(size_t states, size_t outputs,
                            const uint8_t *next, size_t next_len,
                            const uint8_t *words, size_t words_len,
+                           uint32_t end,
                            size_t sections,
                            const int16_t *channel, size_t channel_len,
                            const int16_t *apriori, size_t apriori_len,
@@ -91,14 +106,18 @@ uint32_t turbo_lone_decode(size_t states, size_t outputs,
  * A frame, for the two calls below.
  *
  *   states, outputs, next, words    a systematic table with two outputs
+ *   end1, end2      an enum turbo_end for each coder
  *   bits            K message bits, at least 1; K + T is at most 4096
- *   tail            T tail sections of each coder, 0..4
+ *   tail            T, 0..4: the tail sections of each coder that ends at zero. An open one and a ring have none
  *   pattern         K entries, each of 0..K-1 once: the second coder's input i is message bit pattern[i]
  *   masks           1..16 entries, repeated over the K positions: 4 for the systematic bit, 2 for parity 1 and 1 for parity 2, added, say
  *                   which are sent
  *
+ * A ring coder starts in the lowest state that its own K inputs return to itself; those of the second coder are the interleaved ones.
+ *
  * The frame's list has, position by position, what its mask sends, in the order systematic, parity 1, parity 2; then tail 1 and tail 2, each
- * systematic then parity, section by section. Its length is the number of ones in the masks of the K positions, plus 4*T.
+ * systematic then parity, section by section, where that coder ends at zero. Its length is the number of ones in the masks of the K positions, plus 2*T
+ * for each coder that ends at zero.
  */
 
 /*
@@ -112,6 +131,7 @@ uint32_t turbo_lone_decode(size_t states, size_t outputs,
 uint32_t turbo_encode(size_t states, size_t outputs,
                       const uint8_t *next, size_t next_len,
                       const uint8_t *words, size_t words_len,
+                      uint32_t end1, uint32_t end2,
                       size_t bits, size_t tail,
                       const uint8_t *message, size_t message_len,
                       const uint32_t *pattern, size_t pattern_len,
@@ -127,14 +147,15 @@ uint32_t turbo_encode(size_t states, size_t outputs,
  *   decided         K entries written: 1 where the margin is 0 or more, else 0
  *   margins         K entries written, from the last pass, in message order
  *   extrinsics      the same; whole, neither scaled nor limited
- *   work            (K+T+1)*S entries, for the decoder's own use; zero afterwards
+ *   work            (K+T+1)*S entries where a coder ends at zero, else (K+1)*S, for the decoder's own use; zero afterwards
  *   index           always written: for 6 the index in `received` of its first value out of range; else 0
  *
- * Returns 0, 2, 3, 4, 5, 6, 8, 9, 10, 11, 12 or 13. Whether it is 12 or 13 depends on the table, K and T alone, never on the values.
+ * Returns 0, 2, 3, 4, 5, 6, 8, 9, 10, 11, 12 or 13. Whether it is 12 or 13 depends on the table, the ends, K and T alone, never on the values.
  */
 uint32_t turbo_decode(size_t states, size_t outputs,
                       const uint8_t *next, size_t next_len,
                       const uint8_t *words, size_t words_len,
+                      uint32_t end1, uint32_t end2,
                       size_t bits, size_t tail,
                       const uint32_t *pattern, size_t pattern_len,
                       const uint8_t *masks, size_t masks_len,
@@ -147,7 +168,7 @@ uint32_t turbo_decode(size_t states, size_t outputs,
                       uint64_t *index);
 
 /*
- * The sheet: a frame of the house code as text, with two tail sections, decoded in eight iterations.
+ * The sheet: a frame of the house code as text, both of whose coders end at zero with two tail sections, decoded in eight iterations.
  *
  *   sheet           any bytes. A sheet has at most 16384: the line `at to sys par par2 sys2`, K rows, 1..512, and two tail rows, each ended by
  *                   a line feed
@@ -200,7 +221,7 @@ uint32_t turbo_house_words(uint8_t *list, size_t list_len);
  *   next, words     2*2^m entries each, written: a table's lists
  *
  * Memory 2 with taps 7 and 5 is the house code; memory 3 with 13 and 11 is the eight-state code of 3GPP TS 36.212. With m tail sections a frame
- * over such a table is never answered 12, 13 or 14.
+ * over such a table, both of whose coders end at zero, is never answered 12, 13 or 14.
  *
  * Returns 0, 2 or 15. The lists are measured only where m is in range.
  */

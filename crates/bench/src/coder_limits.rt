@@ -2,6 +2,7 @@
 use bench_tools::frames;
 use bench_tools::reply;
 use bench_tools::safe;
+use trellis::End;
 ghost use Prim.Native.Nat.{_≤_};
 
 // Prints the first n entries of a frame's list.
@@ -34,6 +35,8 @@ fn asked(
         2,
         &next,
         &words,
+        End::Zero,
+        End::Zero,
         bits,
         tail,
         message,

@@ -9,6 +9,7 @@ use bench_tools::plain_refusal;
 use bench_tools::reply;
 use bench_tools::tally;
 use bench_tools::tally::Tally;
+use trellis::End;
 ghost use Prim.Native.Nat.{_≤_};
 
 // Where the tally counts what does not agree; the other places are the numbers, 0 for done.
@@ -38,6 +39,8 @@ fn called(
         p.outputs,
         next,
         words,
+        End::Zero,
+        End::Zero,
         p.bits,
         p.tail,
         message,

@@ -2,6 +2,7 @@
 use crate::lone;
 use bench_tools::reply;
 use bench_tools::safe;
+use trellis::End;
 
 // The house code, four sections, one channel value and one a-priori value other than 0.
 fn with_values(channel_value: i16, apriori_value: i16) -> usize {
@@ -29,6 +30,7 @@ fn with_sections(n: usize) -> usize {
         2,
         &next,
         &words,
+        End::Zero,
         n,
         &channel,
         &apriori,

@@ -9,6 +9,7 @@ use bench_tools::safe;
 use bench_tools::tally;
 use bench_tools::tally::Tally;
 use refusal::Reply;
+use trellis::End;
 ghost use Prim.Native.Nat.{_≤_};
 
 // The length of the channel list: outputs times sections.
@@ -88,6 +89,7 @@ pub fn called(
         outputs,
         next,
         words,
+        End::Zero,
         sections,
         channel,
         apriori,

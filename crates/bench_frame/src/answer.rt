@@ -2,11 +2,14 @@
 use bench_tools::reply;
 use bench_tools::safe;
 use refusal::Reply;
+use trellis::End;
 
-// Sizes as they are told, and the lengths of the lists that are written.
+// Sizes and ends as they are told, and the lengths of the lists that are written.
 pub struct Sizes {
     pub states: usize,
     pub outputs: usize,
+    pub end1: End,
+    pub end2: End,
     pub bits: usize,
     pub tail: usize,
     pub iterations: usize,
@@ -36,12 +39,21 @@ pub const OLD_EXTRINSIC: i32 = 98;
 
 const OLD_WORK: i32 = 7;
 
-// One iteration with lists of the right lengths.
-pub fn right(states: usize, outputs: usize, bits: usize, tail: usize) -> Sizes {
+// One iteration by two ends, with lists of the right lengths where one of them is zero or there is no tail section.
+pub fn ended(
+    states: usize,
+    outputs: usize,
+    end1: End,
+    end2: End,
+    bits: usize,
+    tail: usize,
+) -> Sizes {
     let rows = safe::add(safe::add(bits, tail), 1);
     Sizes {
         states: states,
         outputs: outputs,
+        end1: end1,
+        end2: end2,
         bits: bits,
         tail: tail,
         iterations: 1,
@@ -50,6 +62,11 @@ pub fn right(states: usize, outputs: usize, bits: usize, tail: usize) -> Sizes {
         extrinsics_len: bits,
         work_len: safe::times(rows, states),
     }
+}
+
+// The same by two zero ends.
+pub fn right(states: usize, outputs: usize, bits: usize, tail: usize) -> Sizes {
+    ended(states, outputs, End::Zero, End::Zero, bits, tail)
 }
 
 // How many of the first n entries are x.
@@ -102,11 +119,15 @@ pub fn called(
     let mut margins = [OLD_MARGIN; 4096];
     let mut extrinsics = [OLD_EXTRINSIC; 4096];
     let mut work = [OLD_WORK; 16400];
+    let end1 = s.end1;
+    let end2 = s.end2;
     let r = turbo::decode(
         s.states,
         s.outputs,
         next,
         words,
+        end1,
+        end2,
         s.bits,
         s.tail,
         pattern,

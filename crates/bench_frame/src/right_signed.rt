@@ -39,11 +39,15 @@ fn coded(
 ) -> Sent {
     let n = len % 1601;
     let mut sent = [0u8; 1600];
+    let end1 = s.end1;
+    let end2 = s.end2;
     let r = turbo::encode(
         s.states,
         s.outputs,
         next,
         words,
+        end1,
+        end2,
         s.bits,
         s.tail,
         message,

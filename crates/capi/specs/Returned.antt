@@ -1,10 +1,12 @@
 -- What a program in another language gets back from a call: the reply's number, 0 where the call is done, the lists that it lent, and from the decoders the
--- index of the first value out of range.
+-- index of the first value out of range. And which numbers stand for an end.
 -- Assumes nothing.
 use mathlib.Core.List.{List}
-use Prim.Native.Nat.{ℕ}
+use Prim.Native.Nat.{ℕ, zero, suc}
 use lib.Dec.{eqb}
 use lib.ListN.{length}
+use Rattle.trellis.specs.declared.End.{End}
+use Rattle.trellis.specs.declared.End.the-variants.{Zero, Open, Ring}
 use Rattle.refusal.specs.declared.Refusal.the-variants.{Lists}
 use Rattle.refusal.specs.declared.Reply.{Reply}
 use Rattle.refusal.specs.Refusals.{numberOf, placeOf, check, after}
@@ -13,6 +15,8 @@ use Rattle.siso.specs.Decode.{Lent, Result}
 use Rattle.polynomial.specs.Polynomial.{PatternResult}
 use Rattle.coder.specs.Coder.{EncodeResult}
 use Rattle.decoder.specs.Decoder.{DecodeLent, DecodeResult}
+use Rattle.capi.specs.declared.ends.Ending.{Ending}
+use Rattle.capi.specs.declared.ends.Ending.the-variants.{Known, Unknown}
 
 pub record Returned (A : Type 0) : Type 0 where
   pub number : ℕ
@@ -45,6 +49,26 @@ tapsReturned x = returned (numberOf (x .reply)) (x .lists)
 
 abbrev pub patternReturned : PatternResult → Returned (List ℕ)
 patternReturned x = returned (numberOf (x .reply)) (x .pattern)
+
+-- the end that a number stands for: 0 zero, 1 open, 2 ring
+unfoldable pub endOf : ℕ → Ending
+endOf zero = Known Zero
+endOf (suc zero) = Known Open
+endOf (suc (suc zero)) = Known Ring
+endOf (suc (suc (suc n))) = Unknown
+
+module _ {A : Type 0} where
+  -- what an end comes to, and what is left where there is none
+  unfoldable pub forEnding : Ending → A → (End → A) → A
+  forEnding Unknown refused answer = refused
+  forEnding (Known end) refused answer = answer end
+
+  -- a call that carries one end as a number, and one that carries two: each number that stands for none refuses it, whatever else it is lent
+  abbrev pub byEnd : ℕ → A → (End → A) → A
+  byEnd n refused answer = forEnding (endOf n) refused answer
+
+  abbrev pub byEnds : ℕ → ℕ → A → (End → End → A) → A
+  byEnds n m refused answer = byEnd n refused (λ first. byEnd m refused (answer first))
 
 -- entries written to a list: 5 where it is not as long, and then it is as it was
 unfoldable pub written : List ℕ → List ℕ → Returned (List ℕ)

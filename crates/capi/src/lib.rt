@@ -1,5 +1,5 @@
-// The receiver for programs in other languages: a list is a pointer and a length, the reply is its number, and the decoders write the index that 6 and 16
-// carry. include/turbo.h declares these.
+// The receiver for programs in other languages: a list is a pointer and a length, an end a number, the reply is its number, and the decoders write the
+// index that 6 and 16 carry. A number that stands for no end is refused by 2, whatever else is lent. include/turbo.h declares these.
 ghost use mathlib.Core.Bool.{cond};
 ghost use mathlib.Core.List.{_++_};
 ghost use mathlib.Core.Path.{_≡_};
@@ -17,8 +17,13 @@ ghost use Rattle.decoder.specs.Decoder.{decode as decoded};
 ghost use Rattle.decoder.specs.Lent.{callOf, lentOf};
 ghost use Rattle.sheet.specs.Sheet.{answer as answerTo, FitsPage};
 ghost use Rattle.hints.specs.Hints.{hint, hintOf};
-ghost use Rattle.capi.specs.Returned.{returned, indexed, loneReturned, encodeReturned, decodeReturned};
+ghost use Rattle.capi.specs.Returned.{returned, indexed, byEnd, byEnds, loneReturned, encodeReturned, decodeReturned};
 ghost use Rattle.capi.specs.Returned.{tapsReturned, patternReturned, written};
+
+mod ends;
+
+use ends::Ending;
+use ends::end_of;
 use refusal::Refusal;
 use refusal::Reply;
 
@@ -38,6 +43,7 @@ pub extern "C" fn turbo_lone_decode(
     outputs: usize,
     next: &[u8],
     words: &[u8],
+    end: u32,
     sections: usize,
     channel: &[i16],
     apriori: &[i16],
@@ -50,17 +56,23 @@ pub extern "C" fn turbo_lone_decode(
     ensures { λ r. ⌜
         indexed r (now (index .exit))
         (loneLentOf (now (marks .exit)) (now (margins .exit)) (now (extrinsics .exit)) (now (work .exit)))
-        ≡ loneReturned
+        ≡ byEnd end
+        (indexed 2 0 (loneLentOf (now (marks .entry)) (now (margins .entry)) (now (extrinsics .entry)) (now (work .entry))))
+        (λ e. loneReturned
         (loneDecoded
-        (loneCallOf states outputs (now (next .entry)) (now (words .entry)) sections
+        (loneCallOf states outputs (now (next .entry)) (now (words .entry)) e sections
         (now (channel .entry)) (now (apriori .entry)))
-        (loneLentOf (now (marks .entry)) (now (margins .entry)) (now (extrinsics .entry)) (now (work .entry)))) ⌝ }
+        (loneLentOf (now (marks .entry)) (now (margins .entry)) (now (extrinsics .entry)) (now (work .entry))))) ⌝ }
 {
+    let Ending::Known(by) = end_of(end) else {
+        return tell(Reply::Refused(Refusal::Shape), index);
+    };
     let reply = siso::decode(
         states,
         outputs,
         next,
         words,
+        by,
         sections,
         channel,
         apriori,
@@ -79,6 +91,8 @@ pub extern "C" fn turbo_encode(
     outputs: usize,
     next: &[u8],
     words: &[u8],
+    end1: u32,
+    end2: u32,
     bits: usize,
     tail: usize,
     message: &[u8],
@@ -88,17 +102,27 @@ pub extern "C" fn turbo_encode(
 ) -> u32
     ensures { λ r. ⌜
         returned r (now (sent .exit))
-        ≡ encodeReturned
+        ≡ byEnds end1 end2
+        (returned 2 (now (sent .entry)))
+        (λ e1 e2. encodeReturned
         (encoded
-        (encodeOf states outputs (now (next .entry)) (now (words .entry)) bits tail
+        (encodeOf states outputs (now (next .entry)) (now (words .entry)) e1 e2 bits tail
         (now (message .entry)) (now (pattern .entry)) (now (masks .entry)))
-        (now (sent .entry))) ⌝ }
+        (now (sent .entry)))) ⌝ }
 {
+    let Ending::Known(first) = end_of(end1) else {
+        return refusal::number_of_refusal(Refusal::Shape);
+    };
+    let Ending::Known(second) = end_of(end2) else {
+        return refusal::number_of_refusal(Refusal::Shape);
+    };
     refusal::number_of(turbo::encode(
         states,
         outputs,
         next,
         words,
+        first,
+        second,
         bits,
         tail,
         message,
@@ -115,6 +139,8 @@ pub extern "C" fn turbo_decode(
     outputs: usize,
     next: &[u8],
     words: &[u8],
+    end1: u32,
+    end2: u32,
     k: usize,
     t: usize,
     pattern: &[u32],
@@ -130,17 +156,27 @@ pub extern "C" fn turbo_decode(
     ensures { λ r. ⌜
         indexed r (now (index .exit))
         (lentOf (now (bits .exit)) (now (margins .exit)) (now (extrinsics .exit)) (now (work .exit)))
-        ≡ decodeReturned
+        ≡ byEnds end1 end2
+        (indexed 2 0 (lentOf (now (bits .entry)) (now (margins .entry)) (now (extrinsics .entry)) (now (work .entry))))
+        (λ e1 e2. decodeReturned
         (decoded
-        (callOf states outputs (now (next .entry)) (now (words .entry)) k t (now (pattern .entry)) (now (masks .entry))
+        (callOf states outputs (now (next .entry)) (now (words .entry)) e1 e2 k t (now (pattern .entry)) (now (masks .entry))
         (now (received .entry)) iterations)
-        (lentOf (now (bits .entry)) (now (margins .entry)) (now (extrinsics .entry)) (now (work .entry)))) ⌝ }
+        (lentOf (now (bits .entry)) (now (margins .entry)) (now (extrinsics .entry)) (now (work .entry))))) ⌝ }
 {
+    let Ending::Known(first) = end_of(end1) else {
+        return tell(Reply::Refused(Refusal::Shape), index);
+    };
+    let Ending::Known(second) = end_of(end2) else {
+        return tell(Reply::Refused(Refusal::Shape), index);
+    };
     let reply = turbo::decode(
         states,
         outputs,
         next,
         words,
+        first,
+        second,
         k,
         t,
         pattern,

@@ -1,7 +1,7 @@
 -- The bench cases of document 01 that are marked P, in one list, each with its answer; and the answer that the definitions give.
 -- Assumes nothing.
 use mathlib.Core.List.{List, [], _∷_, getLastD}
-use mathlib.Core.Option.{Option·getD, Option·elim, bind, orElse}
+use mathlib.Core.Option.{Option, some, Option·elim, bind, orElse}
 use Prim.Native.Nat.{ℕ}
 use lib.Count.{ones}
 use lib.IntN.{ℤ, pos, negsuc}
@@ -11,9 +11,12 @@ use Rattle.integers.specs.Integers
 use Rattle.refusal.specs.declared.Refusal.the-variants.{Lists, NoPath, ForcedPosition, NoTail}
 use Rattle.refusal.specs.declared.Reply.the-variants.{Done, Refused}
 use Rattle.refusal.specs.Refusals
+use Rattle.trellis.specs.declared.End.{End}
+use Rattle.trellis.specs.declared.End.the-variants.{Zero}
 use Rattle.trellis.specs.Table
 use Rattle.trellis.specs.Table.{Table}
 use Rattle.trellis.specs.Path
+use Rattle.trellis.specs.Path.{TrellisPath}
 use Rattle.trellis.specs.Limits
 use Rattle.trellis.specs.Outcome
 use Rattle.siso.specs.Decode as Lone
@@ -35,7 +38,7 @@ pub data Case : Type 0 where
   lonePass : Lone.Call → Lone.Lent → Lone.Result → Case
   sheet : List ℕ → List ℕ → Case
   interleaved : List ℕ → List ℕ → List ℕ → Case
-  coderPath : Frame → List ℕ → List ℕ → List ℕ → Case
+  coderPath : Frame → List ℕ → Option TrellisPath → List ℕ → Case
   coded : Coder.EncodeCall → List ℕ → Coder.EncodeResult → Case
   decoded : Decoder.DecodeCall → Decoder.DecodeLent → Decoder.DecodeResult → Case
   frameSize : Frame → ℕ → Case
@@ -49,12 +52,12 @@ unfolding
     Refusals.told Refusals.numberOf Refusals.check Refusals._then_ Refusals.after Refusals.cleared
     Limits.sectionsFit Limits.channelFits Limits.aprioriFits Limits.firstOutside
     Outcome.larger Outcome.greatest Outcome.best Outcome.outcomeOf Outcome.outcome Outcome.pathless Outcome.forced Outcome.mark Outcome.margin Outcome.systematicAt Outcome.intrinsic Outcome.extrinsic Outcome.positionOf Outcome.position Outcome.marks Outcome.margins Outcome.extrinsics
-    Path.aprioriAt Path.channelAt Path.signed Path.wordMetric Path.branchMetric Path.metricFrom Path.finish Path.metric Path.allBits Path.terminating Path.paths Path.class
+    Path.aprioriAt Path.channelAt Path.signed Path.wordMetric Path.branchMetric Path.metricFrom Path.finish Path.metric Path.allBits Path.terminating Path.admits Path.allPaths Path.paths Path.class
     Table.nextState Table.word Table.output Table.systematic Table.shaped Table.branched
     Lone.listsFit Lone.checked Lone.walked Lone.reply Lone.settled Lone.decode
-    Coder.tailFrom Coder.withTail Coder.parityAt Coder.sectionAt Coder.places Coder.sentFor Coder.encodeListsFit Coder.encodeChecked Coder.tailed Coder.encodeReply Coder.encodeSettled Coder.encode
-    Decoder.handOver Decoder.decided Decoder.channel1 Decoder.channel2 Decoder.pass Decoder.pass1 Decoder.pass2 Decoder.handOn Decoder.handBack Decoder.iteration Decoder.prior Decoder.lastPass Decoder.decodeListsFit Decoder.decodeChecked Decoder.decodeWalked Decoder.decodeReply Decoder.decodeSettled Decoder.decode
-    Frame.sections Frame.sizesFit Frame.masksFit Frame.codes Frame.maskAt Frame.maskFlags Frame.onesTo Frame.lengthUnder Frame.frameLength Frame.flagsUnder Frame.flags Frame.puncture Frame.spread
+    Coder.tailFrom Coder.ringStart Coder.codedPath Coder.parityAt Coder.sectionAt Coder.places Coder.sentFor Coder.encodeListsFit Coder.encodeChecked Coder.tailed Coder.encodeReply Coder.encodeSettled Coder.encode
+    Decoder.handOver Decoder.decided Decoder.channel1Under Decoder.channel1 Decoder.channel2Under Decoder.channel2 Decoder.pass Decoder.pass1 Decoder.pass2 Decoder.handOn Decoder.handBack Decoder.iteration Decoder.prior Decoder.lastPass Decoder.decodeListsFit Decoder.decodeChecked Decoder.decodeWalked Decoder.decodeReply Decoder.decodeSettled Decoder.decode
+    Frame.tailOf Frame.tail1 Frame.tail2 Frame.sections1 Frame.sections2 Frame.longer Frame.sizesFit Frame.masksFit Frame.codes Frame.maskAt Frame.maskFlags Frame.onesTo Frame.lengthUnder Frame.frameLength Frame.flagsUnder Frame.flags Frame.puncture Frame.spread
     House.houseParity House.houseNext House.house
     Interleaver.permutes Interleaver.place Interleaver.interleave Interleaver.deinterleave
     Decimal.numeral Decimal.natural Decimal.opposite Decimal.integer Decimal.digitsIn Decimal.digits Decimal.decimal
@@ -64,9 +67,9 @@ unfolding
 computed (lonePass c l r) = lonePass c l (Lone.decode c l)
 computed (sheet s a) = sheet s (Sheet.answer s)
 computed (interleaved p xs ys) = interleaved p xs (Interleaver.interleave 0 p xs)
-computed (coderPath f m xs ps) =
-    let all = Option·getD (Coder.withTail f m) [] in
-    coderPath f m all (ByIndex.listed (Coder.parityAt (f .table) all) (length all))
+computed (coderPath f m p ps) =
+    let path = Coder.codedPath (f .table) (f .first) (f .tail) m in
+    coderPath f m path (Option·elim path [] (λ q. ByIndex.listed (Coder.parityAt (f .table) q) (length (q .bits))))
 computed (coded c l r) = coded c l (Coder.encode c l)
 computed (decoded c l r) = decoded c l (Decoder.decode c l)
 computed (frameSize f n) = frameSize f (Frame.frameLength f)
@@ -88,9 +91,13 @@ follower = record { states = 2; outputs = 1; next = 0 ∷ 1 ∷ 0 ∷ 1 ∷ []; 
 unfoldable pub trap : Table
 trap = record { states = 2; outputs = 1; next = 1 ∷ 1 ∷ 1 ∷ 1 ∷ []; words = 0 ∷ 1 ∷ 0 ∷ 1 ∷ [] }
 
--- a frame of the house code in message order
+-- a frame of the house code whose coders have these ends; document 01's have two zero ends
+unfoldable pub endedFrame : End → End → ℕ → ℕ → List ℕ → List ℕ → Frame
+endedFrame first second k t pattern masks =
+    record { table = house; first = first; second = second; bits = k; tail = t; pattern = pattern; masks = masks }
+
 unfoldable pub plainFrame : ℕ → ℕ → List ℕ → List ℕ → Frame
-plainFrame k t pattern masks = record { table = house; bits = k; tail = t; pattern = pattern; masks = masks }
+plainFrame = endedFrame Zero Zero
 
 unfoldable pub lentTo : ℕ → List ℤ → Decoder.DecodeLent
 lentTo k work = record { bits = replicate k 77; margins = replicate k (pos 77); extrinsics = replicate k (pos 77); work = work }
@@ -103,6 +110,7 @@ cases =
     lonePass
     (record {
       table = house;
+      end = Zero;
       sections = 4;
       values = record {
         channel = pos 4 ∷ negsuc 0 ∷ negsuc 1 ∷ pos 2 ∷ pos 1 ∷ negsuc 4 ∷ pos 3 ∷ pos 6 ∷ [];
@@ -125,7 +133,7 @@ cases =
     (bytes "at bit margin extrinsic\n0 1 9 1\n")
     -- P3
     ∷ lonePass
-    (record { table = follower; sections = 2; values = record { channel = pos 3 ∷ negsuc 6 ∷ []; apriori = pos 1 ∷ pos 0 ∷ [] } })
+    (record { table = follower; end = Zero; sections = 2; values = record { channel = pos 3 ∷ negsuc 6 ∷ []; apriori = pos 1 ∷ pos 0 ∷ [] } })
     (untouched 2 (replicate 6 (pos 77)))
     (record {
       reply = Done;
@@ -133,12 +141,12 @@ cases =
     })
     -- P4
     ∷ lonePass
-    (record { table = follower; sections = 1; values = record { channel = pos 3 ∷ []; apriori = pos 1 ∷ [] } })
+    (record { table = follower; end = Zero; sections = 1; values = record { channel = pos 3 ∷ []; apriori = pos 1 ∷ [] } })
     (untouched 1 (replicate 4 (pos 77)))
     (record { reply = Done; lists = record { marks = 0 ∷ []; margins = pos 0 ∷ []; extrinsics = pos 0 ∷ []; work = zeros 4 } })
     -- P5
     ∷ lonePass
-    (record { table = trap; sections = 2; values = record { channel = pos 3 ∷ negsuc 6 ∷ []; apriori = pos 1 ∷ pos 0 ∷ [] } })
+    (record { table = trap; end = Zero; sections = 2; values = record { channel = pos 3 ∷ negsuc 6 ∷ []; apriori = pos 1 ∷ pos 0 ∷ [] } })
     (untouched 2 (replicate 6 (pos 77)))
     (record { reply = Refused NoPath; lists = untouched 2 (zeros 6) })
     -- P6
@@ -147,7 +155,7 @@ cases =
     (2 ∷ 4 ∷ 3 ∷ 1 ∷ 8 ∷ 5 ∷ 9 ∷ 6 ∷ 0 ∷ [])
     (2 ∷ 1 ∷ 9 ∷ 4 ∷ 8 ∷ 0 ∷ 3 ∷ 5 ∷ 6 ∷ [])
     -- P7
-    ∷ coderPath (plainFrame 1 2 (0 ∷ []) (7 ∷ [])) (1 ∷ []) (1 ∷ 1 ∷ 1 ∷ []) (1 ∷ 0 ∷ 1 ∷ [])
+    ∷ coderPath (plainFrame 1 2 (0 ∷ []) (7 ∷ [])) (1 ∷ []) (some (record { start = 0; bits = 1 ∷ 1 ∷ 1 ∷ [] })) (1 ∷ 0 ∷ 1 ∷ [])
     -- P8
     ∷ coded
     (record { frame = plainFrame 1 0 (0 ∷ []) (7 ∷ []); message = 1 ∷ [] })

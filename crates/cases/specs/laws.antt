@@ -1,2 +1,3 @@
 pub mod CasesHold
 pub mod Places
+pub mod Ends

@@ -1,21 +1,25 @@
 // The checks of a call, in the order of their numbers.
 ghost use mathlib.Core.Bool.{not, _&&_, _||_};
 ghost use mathlib.Core.Path.{_≡_};
+ghost use Prim.Native.Nat.{_+_};
 ghost use lib.Dec.{eqb, leb, ltb};
 ghost use lib.ListN.{length};
 ghost use Rattle.lists.specs.Lists.{every};
 ghost use Rattle.refusal.specs.declared.Refusal.the-variants.{Bit, Pattern, Mask, Coder};
 ghost use Rattle.refusal.specs.Refusals.{check, _then_};
 ghost use Rattle.trellis.specs.Table.{tableOf};
-ghost use Rattle.frame.specs.Frame.{goodSizes, goodMasks, goodCoder, lengthUnder};
+ghost use Rattle.frame.specs.Frame.{tailOf, goodSizes, goodMasks, goodCoder, lengthUnder};
 ghost use Rattle.frame.specs.Interleaver.{permutes};
 ghost use Rattle.coder.specs.Coder.{encodeChecked};
 ghost use Rattle.coder.specs.Lent.{encodeOf};
 use refusal::Refusal;
 use refusal::Reply;
+use trellis::End;
 
 // The coder's lists, by their lengths: pattern and message have K entries, and the frame its own length.
 fn encode_lists_fit(
+    end1: End,
+    end2: End,
     bits: usize,
     tail: usize,
     masks: &[u8],
@@ -28,7 +32,7 @@ fn encode_lists_fit(
         && eqb message bits
         && (goodSizes bits tail
         && (not (goodMasks (now (masks .entry)))
-        || eqb sent (lengthUnder (now (masks .entry)) bits tail)))) ⌝ }
+        || eqb sent (lengthUnder (now (masks .entry)) bits (tailOf end1 tail + tailOf end2 tail))))) ⌝ }
 {
     if pattern != bits {
         return false;
@@ -36,7 +40,7 @@ fn encode_lists_fit(
     if message != bits {
         return false;
     }
-    frame::frame_fits(masks, bits, tail, sent)
+    frame::frame_fits(masks, end1, end2, bits, tail, sent)
 }
 
 // What the lists hold: 7, 8, 9, 11.
@@ -70,6 +74,8 @@ pub fn encode_reply(
     outputs: usize,
     next: &[u8],
     words: &[u8],
+    end1: End,
+    end2: End,
     bits: usize,
     tail: usize,
     message: &[u8],
@@ -79,7 +85,7 @@ pub fn encode_reply(
 ) -> Reply
     ensures { λ r. ⌜
         r ≡ encodeChecked
-        (encodeOf states outputs (now (next .entry)) (now (words .entry)) bits tail
+        (encodeOf states outputs (now (next .entry)) (now (words .entry)) end1 end2 bits tail
         (now (message .entry)) (now (pattern .entry)) (now (masks .entry)))
         (now (sent .entry)) ⌝ }
 {
@@ -90,7 +96,16 @@ pub fn encode_reply(
     if !frame::sizes_fit(bits, tail) {
         return Reply::Refused(Refusal::Length);
     }
-    if !encode_lists_fit(bits, tail, masks, pattern.len(), message.len(), sent.len()) {
+    if !encode_lists_fit(
+        end1,
+        end2,
+        bits,
+        tail,
+        masks,
+        pattern.len(),
+        message.len(),
+        sent.len(),
+    ) {
         return Reply::Refused(Refusal::Lists);
     }
     entries_reply(states, outputs, next, words, message, pattern, masks)

@@ -10,6 +10,7 @@ mod sections;
 mod tail;
 
 use refusal::Reply;
+use trellis::End;
 
 // The frame sent for a message, a bit an entry.
 pub fn encode(
@@ -17,6 +18,8 @@ pub fn encode(
     outputs: usize,
     next: &[u8],
     words: &[u8],
+    end1: End,
+    end2: End,
     bits: usize,
     tail: usize,
     message: &[u8],
@@ -27,7 +30,7 @@ pub fn encode(
     ensures { λ r. ⌜
         encodedOf r (now (sent .exit))
         ≡ encoded
-        (encodeOf states outputs (now (next .entry)) (now (words .entry)) bits tail
+        (encodeOf states outputs (now (next .entry)) (now (words .entry)) end1 end2 bits tail
         (now (message .entry)) (now (pattern .entry)) (now (masks .entry)))
         (now (sent .entry)) ⌝ }
 {
@@ -36,6 +39,8 @@ pub fn encode(
         outputs,
         next,
         words,
+        end1,
+        end2,
         bits,
         tail,
         message,
@@ -46,5 +51,16 @@ pub fn encode(
     if let Reply::Refused(_) = reply {
         return reply;
     }
-    sections::run(next, words, bits, tail, message, pattern, masks, sent)
+    sections::run(
+        next,
+        words,
+        end1,
+        end2,
+        bits,
+        tail,
+        message,
+        pattern,
+        masks,
+        sent,
+    )
 }

@@ -12,12 +12,13 @@ use Rattle.lists.specs.Lists.{joined, any, upto}
 use Rattle.refusal.specs.declared.Refusal.the-variants.{Shape, Branch, Length, Lists, Pattern, Mask, Iterations, Coder, NoPath, ForcedPosition}
 use Rattle.refusal.specs.declared.Reply.{Reply}
 use Rattle.refusal.specs.Refusals.{check, _then_, after, cleared}
+use Rattle.trellis.specs.declared.End.{End}
 use Rattle.trellis.specs.Table.{shaped, branched}
 use Rattle.trellis.specs.Path.{Values}
 use Rattle.trellis.specs.Limits.{aprioriLimit, channelReply}
 use Rattle.trellis.specs.Outcome.{pathless, forced, margins, extrinsics}
 use Rattle.frame.specs.Interleaver.{permutes, interleave, deinterleave}
-use Rattle.frame.specs.Frame.{Frame, sections, sizesFit, masksFit, codes, frameLength, flags, spread}
+use Rattle.frame.specs.Frame.{Frame, tailOf, tail1, tail2, sectionsOf, sections1, sections2, longer, sizesFit, masksFit, codes, frameLength, flags, spread}
 
 -- ---- the rules of handing over and of deciding
 
@@ -35,36 +36,40 @@ decided (negsuc m) = 0
 abbrev valueAt : List ℤ → ℕ → ℤ
 valueAt r i = getD r i (pos 0)
 
--- pass 1 reads systematic k and parity 1 at k, then tail 1
+-- pass 1 reads systematic k and parity 1 at k, then tail 1. (Of k positions; t1 and t2 are the tail sections of the coders.)
+unfoldable pub channel1Under : ℕ → ℕ → List ℤ → List ℤ
+channel1Under k t1 r = joined (λ i. valueAt r (3 * i) ∷ valueAt r (3 * i + 1) ∷ []) k ++ take (2 * t1) (drop (3 * k) r)
+
 unfoldable pub channel1 : Frame → List ℤ → List ℤ
-channel1 f r =
-    joined (λ k. valueAt r (3 * k) ∷ valueAt r (3 * k + 1) ∷ []) (f .bits) ++ take (2 * f .tail) (drop (3 * f .bits) r)
+channel1 f r = channel1Under (f .bits) (tail1 f) r
 
 -- pass 2 reads systematic pattern(k) and parity 2 at k, then tail 2
+unfoldable pub channel2Under : List ℕ → ℕ → ℕ → ℕ → List ℤ → List ℤ
+channel2Under pattern k t1 t2 r =
+    joined (λ i. valueAt r (3 * getD pattern i 0) ∷ valueAt r (3 * i + 2) ∷ []) k ++ take (2 * t2) (drop (3 * k + 2 * t1) r)
+
 unfoldable pub channel2 : Frame → List ℤ → List ℤ
-channel2 f r =
-    joined (λ k. valueAt r (3 * getD (f .pattern) k 0) ∷ valueAt r (3 * k + 2) ∷ []) (f .bits)
-    ++ take (2 * f .tail) (drop (3 * f .bits + 2 * f .tail) r)
+channel2 f r = channel2Under (f .pattern) (f .bits) (tail1 f) (tail2 f) r
 
 -- what a pass says of the K message positions, in its own order
 pub record Soft : Type 0 where
   pub margins : List ℤ
   pub extrinsics : List ℤ
 
--- a pass is a lone pass over K + T sections; tail positions have the a-priori value 0
-unfoldable pub pass : Frame → List ℤ → List ℤ → Soft
-pass f channel a =
-    let v : Values = record { channel = channel; apriori = a ++ replicate (f .tail) (pos 0) } in
+-- a pass is a lone pass by its coder's end, over K sections and its tail's; tail positions have the a-priori value 0
+unfoldable pub pass : Frame → End → List ℤ → List ℤ → Soft
+pass f end channel a =
+    let v : Values = record { channel = channel; apriori = a ++ replicate (tailOf end (f .tail)) (pos 0) } in
     record {
-      margins = margins (f .table) v (sections f) (f .bits);
-      extrinsics = extrinsics (f .table) v (sections f) (f .bits);
+      margins = margins (f .table) v end (sectionsOf f end) (f .bits);
+      extrinsics = extrinsics (f .table) v end (sectionsOf f end) (f .bits);
     }
 
 unfoldable pub pass1 : Frame → List ℤ → List ℤ → Soft
-pass1 f r a = pass f (channel1 f r) a
+pass1 f r a = pass f (f .first) (channel1 f r) a
 
 unfoldable pub pass2 : Frame → List ℤ → List ℤ → Soft
-pass2 f r a = pass f (channel2 f r) a
+pass2 f r a = pass f (f .second) (channel2 f r) a
 
 -- ---- iterations
 
@@ -116,7 +121,7 @@ decodeListsFit c l =
     && eqb (length (l .bits)) (f .bits)
     && eqb (length (l .margins)) (f .bits)
     && eqb (length (l .extrinsics)) (f .bits)
-    && eqb (length (l .work)) ((sections f + 1) * f .table .states)
+    && eqb (length (l .work)) ((longer f + 1) * f .table .states)
 
 -- the checks of what is lent: the lowest number but 12 and 13 that applies
 unfoldable pub decodeChecked : DecodeCall → DecodeLent → Reply
@@ -132,13 +137,15 @@ decodeChecked c l =
     then check (goodIterations (c .iterations)) Iterations
     then check (codes f) Coder
 
--- there is a path (not so: 12), and no message position is forced (not so: 13). Both passes have the same paths, so one test of each kind
--- speaks for both
+-- each pass has a path (not so: 12), and no message position is forced in either (not so: 13)
 unfoldable pub decodeWalked : DecodeCall → Reply
 decodeWalked c =
     let f = c .frame in
-    check (not (pathless (f .table) (sections f))) NoPath
-    then check (not (any (forced (f .table) (sections f)) (upto (f .bits)))) ForcedPosition
+    check (not (pathless (f .table) (f .first) (sections1 f) || pathless (f .table) (f .second) (sections2 f))) NoPath
+    then check
+    (not
+    (any (forced (f .table) (f .first) (sections1 f)) (upto (f .bits))
+    || any (forced (f .table) (f .second) (sections2 f)) (upto (f .bits)))) ForcedPosition
 
 -- the lowest number that applies, or done
 unfoldable pub decodeReply : DecodeCall → DecodeLent → Reply

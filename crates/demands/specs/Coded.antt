@@ -1,29 +1,41 @@
--- What the coder writes, over terminated paths: a frame for a message.
+-- What the coder writes, over the paths of each coder's end: a frame for a message.
 -- Assumes nothing.
 use mathlib.Core.Path.{_≡_}
 use mathlib.Core.Bool.{false, cond}
 use mathlib.Core.List.{List, _++_}
-use Prim.Native.Nat.{ℕ}
+use Prim.Native.Nat.{ℕ, _<_}
 use lib.ListN.{length, getD}
-use Rattle.trellis.specs.Path.{finish}
-use Rattle.trellis.specs.Best.{IsPath}
+use Rattle.trellis.specs.declared.End.{End}
+use Rattle.trellis.specs.Path.{TrellisPath}
+use Rattle.trellis.specs.Best.{IsBits, IsPath}
 use Rattle.frame.specs.Interleaver.{interleave}
-use Rattle.frame.specs.Frame.{Frame, sections, frameLength, flags, spread}
+use Rattle.frame.specs.Frame.{Frame, sectionsOf, frameLength, flags, spread}
 use Rattle.coder.specs.Coder.{places}
-use Rattle.coder.specs.Tail.{IsFirst}
+use Rattle.coder.specs.Tail.{Before}
 
--- all inputs of a coder: its own and the first tail in dictionary order, which are a path of K + T sections
-pub record IsCoderPath (f : Frame) (inputs path : List ℕ) : Type 0 where
+-- a path of a coder's end that begins with its own inputs; where there is none, 14
+pub record SomeOwnPath (f : Frame) (end : End) (inputs : List ℕ) : Type 0 where
+  pub path : TrellisPath
   pub tail : List ℕ
-  pub whole : path ≡ inputs ++ tail
-  pub first-tail : IsFirst (f .table) (finish (f .table) 0 inputs) (f .tail) tail
-  pub terminated : IsPath (f .table) (sections f) (record { start = 0; bits = path })
+  pub whole : path .bits ≡ inputs ++ tail
+  pub is-path : IsPath (f .table) end (sectionsOf f end) path
 
--- a frame for a message: it is as long as its masks say, and, spread out, has every sent bit in its place and 0 elsewhere
+-- the path of a coder by its end: its own K inputs and a tail. No lower state starts a path with these inputs, and no tail that comes before this one in
+-- dictionary order makes one. So zero starts in state 0 and has the first tail that leads back, open has no tail and starts in state 0, and ring has no
+-- tail and starts in the lowest state that its inputs return to itself
+pub record IsCoderPath (f : Frame) (end : End) (inputs : List ℕ) (path : TrellisPath) : Type 0 where
+  pub own : IsBits (f .bits) inputs
+  pub tail : List ℕ
+  pub whole : path .bits ≡ inputs ++ tail
+  pub is-path : IsPath (f .table) end (sectionsOf f end) path
+  pub lowest-start : (s : ℕ) → s < path .start → IsPath (f .table) end (sectionsOf f end) (record { start = s; bits = path .bits }) → ⊥
+  pub first-tail : (q : List ℕ) → Before q tail → IsPath (f .table) end (sectionsOf f end) (record { start = path .start; bits = inputs ++ q }) → ⊥
+
+-- a frame for a message: it is as long as its masks and its ends say, and, spread out, has every sent bit in its place and 0 elsewhere
 pub record IsFrame (f : Frame) (message sent : List ℕ) : Type 0 where
-  pub first : List ℕ
-  pub second : List ℕ
-  pub first-coder : IsCoderPath f message first
-  pub second-coder : IsCoderPath f (interleave 0 (f .pattern) message) second
+  pub first : TrellisPath
+  pub second : TrellisPath
+  pub first-coder : IsCoderPath f (f .first) message first
+  pub second-coder : IsCoderPath f (f .second) (interleave 0 (f .pattern) message) second
   pub long : length sent ≡ frameLength f
   pub in-place : (i : ℕ) → getD (spread 0 (flags f) sent) i 0 ≡ cond (getD (flags f) i false) (getD (places f first second) i 0) 0

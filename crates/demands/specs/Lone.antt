@@ -1,5 +1,5 @@
 -- Demand 3 for the lone decoder, the statement: what a whole call is, from the values lent to the lists written (document 01, "Table, path and
--- metric"). Every outcome is said over the terminated paths; no recursion over states and no listing of paths is named here.
+-- metric"). Every outcome is said over the paths of the call's end; no recursion over states and no listing of paths is named here.
 -- Assumes nothing.
 use mathlib.Core.Path.{_≡_}
 use mathlib.Core.Logic.{_↔_}
@@ -17,7 +17,7 @@ use Rattle.demands.specs.Meaning.{SomePath, Means}
 -- the lists hold, at position k, the mark, the margin and the extrinsic of its outcome, which is what the paths say
 pub record IsEntry (c : Call) (l : Lent) (k : ℕ) : Type 0 where
   pub said : Outcome
-  pub means : Means (c .table) (c .values) (c .sections) k (some said)
+  pub means : Means (c .table) (c .values) (c .end) (c .sections) k (some said)
   pub mark-is : getD (l .marks) k 0 ≡ mark said
   pub margin-is : getD (l .margins) k (pos 0) ≡ margin said
   pub extrinsic-is : getD (l .extrinsics) k (pos 0) ≡ extrinsic (intrinsic (c .table) (c .values) k) said
@@ -37,8 +37,8 @@ pub record AreKept (lent left : Lent) : Type 0 where
 
 -- what a call with no refusal but 12 comes to: 12 is given exactly where there is no path
 pub record IsLonePass (c : Call) (lent : Lent) (result : Result) : Type 0 where
-  pub no-path : (result .reply ≡ Refused NoPath) ↔ (SomePath (c .table) (c .sections) → ⊥)
-  pub done : (result .reply ≡ Done) ↔ SomePath (c .table) (c .sections)
+  pub no-path : (result .reply ≡ Refused NoPath) ↔ (SomePath (c .table) (c .end) (c .sections) → ⊥)
+  pub done : (result .reply ≡ Done) ↔ SomePath (c .table) (c .end) (c .sections)
   pub written : result .reply ≡ Done → AreWritten c (result .lists)
   pub kept : (result .reply ≡ Done → ⊥) → AreKept lent (result .lists)
   pub cleared : result .lists .work ≡ replicate (length (lent .work)) (pos 0)

@@ -5,6 +5,7 @@ pub mod Replies
 pub mod EveryDecoding
 pub mod Determined
 pub mod Forced
+pub mod CoderPaths
 pub mod EveryFrame
 pub mod RightPass
 pub mod Outputs
@@ -15,6 +16,8 @@ pub mod Passes
 pub mod RightIterations
 pub mod RightSigned
 pub mod EverySheet
+pub mod Always
 pub mod Tailed
 pub mod EveryCode
+pub mod EveryOpen
 pub mod EveryPlace

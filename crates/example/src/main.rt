@@ -1,11 +1,25 @@
 // Codes the message 1 and decodes a frame of one message bit with the house code.
 use refusal::Reply;
+use trellis::End;
 
-// The message 1 with two tail sections, everything sent: 1 1 1, then 1 0 1 1 for each tail.
+// The message 1, both coders ending at zero with two tail sections, everything sent: 1 1 1, then 1 0 1 1 for each tail.
 fn send_one(sent: &mut [u8]) -> Reply {
     let next = turbo::house_next();
     let words = turbo::house_words();
-    turbo::encode(4, 2, &next, &words, 1, 2, &[1], &[0], &[7], sent)
+    turbo::encode(
+        4,
+        2,
+        &next,
+        &words,
+        End::Zero,
+        End::Zero,
+        1,
+        2,
+        &[1],
+        &[0],
+        &[7],
+        sent,
+    )
 }
 
 // A frame with parity 2 unsent, after eight iterations: bit 1, margin 9, extrinsic 1.
@@ -23,6 +37,8 @@ fn read_one(
         2,
         &next,
         &words,
+        End::Zero,
+        End::Zero,
         1,
         2,
         &[0],

@@ -2,35 +2,63 @@
 -- Assumes nothing.
 use mathlib.Core.Bool.{Bool, true, false, _&&_}
 use mathlib.Core.List.{List, [], _∷_, _++_}
-use Prim.Native.Nat.{ℕ, zero, suc, _+_, _*_, _/_, _%_}
+use Prim.Native.Nat.{ℕ, zero, suc, _+_, _*_, _/_, _%_, max}
 use lib.Count.{ones}
 use lib.Dec.{eqb, leb, ltb}
 use lib.ListN.{length, getD, replicate}
 use Rattle.lists.specs.Lists.{joined, every}
+use Rattle.trellis.specs.declared.End.{End}
+use Rattle.trellis.specs.declared.End.the-variants.{Zero, Open, Ring}
 use Rattle.trellis.specs.Limits.{sectionLimit}
 use Rattle.trellis.specs.Table.{Table, tableOf, systematic}
 
--- what coder and decoder agree on: the table, K message bits, T tail sections, the pattern and the masks
+-- what coder and decoder agree on: the table, the end of each coder, K message bits, T tail sections, the pattern and the masks
 pub record Frame : Type 0 where
   pub table : Table
+  pub first : End
+  pub second : End
   pub bits : ℕ
   pub tail : ℕ
   pub pattern : List ℕ
   pub masks : List ℕ
 
 -- the same as one value, from what an entry is lent
-abbrev pub frameOf : ℕ → ℕ → List ℕ → List ℕ → ℕ → ℕ → List ℕ → List ℕ → Frame
-frameOf states outputs next words bits tail pattern masks = record {
+abbrev pub frameOf : ℕ → ℕ → List ℕ → List ℕ → End → End → ℕ → ℕ → List ℕ → List ℕ → Frame
+frameOf states outputs next words first second bits tail pattern masks = record {
   table = tableOf states outputs next words;
+  first = first;
+  second = second;
   bits = bits;
   tail = tail;
   pattern = pattern;
   masks = masks;
 }
 
--- the sections of each coder: K + T
-unfoldable pub sections : Frame → ℕ
-sections f = f .bits + f .tail
+-- the tail sections of a coder: T where it ends at zero, and else none
+unfoldable pub tailOf : End → ℕ → ℕ
+tailOf Zero t = t
+tailOf Open t = 0
+tailOf Ring t = 0
+
+unfoldable pub tail1 : Frame → ℕ
+tail1 f = tailOf (f .first) (f .tail)
+
+unfoldable pub tail2 : Frame → ℕ
+tail2 f = tailOf (f .second) (f .tail)
+
+-- the sections of a coder that has this end: K, and T more where it ends at zero
+abbrev pub sectionsOf : Frame → End → ℕ
+sectionsOf f end = f .bits + tailOf end (f .tail)
+
+-- the sections of each coder, and of the longer one, which the working list is sized for
+unfoldable pub sections1 : Frame → ℕ
+sections1 f = sectionsOf f (f .first)
+
+unfoldable pub sections2 : Frame → ℕ
+sections2 f = sectionsOf f (f .second)
+
+unfoldable pub longer : Frame → ℕ
+longer f = max (sections1 f) (sections2 f)
 
 -- K is at least 1, T is 0..4 and K + T at most 4,096 (not so: 4)
 abbrev pub goodSizes : ℕ → ℕ → Bool
@@ -68,21 +96,21 @@ unfoldable pub onesTo : List ℕ → ℕ → ℕ
 onesTo masks zero = 0
 onesTo masks (suc k) = onesTo masks k + ones (maskAt masks k)
 
--- the length of a frame of k positions and t tail sections: over the positions, the number of ones in its masks, plus 4·t
+-- the length of a frame of k positions and t tail sections in all: over the positions, the number of ones in its masks, plus 2·t
 unfoldable pub lengthUnder : List ℕ → ℕ → ℕ → ℕ
-lengthUnder masks k t = onesTo masks k + 4 * t
+lengthUnder masks k t = onesTo masks k + 2 * t
 
 unfoldable pub frameLength : Frame → ℕ
-frameLength f = lengthUnder (f .masks) (f .bits) (f .tail)
+frameLength f = lengthUnder (f .masks) (f .bits) (tail1 f + tail2 f)
 
 -- ---- places: systematic, parity 1 and parity 2 of each position, then tail 1, then tail 2, each systematic then parity, section by section
 
--- which places are sent: those that the masks say, and all of both tails
+-- which places are sent: those that the masks say, and all of the t tail sections
 unfoldable pub flagsUnder : List ℕ → ℕ → ℕ → List Bool
-flagsUnder masks k t = joined (λ i. maskFlags (maskAt masks i)) k ++ replicate (4 * t) true
+flagsUnder masks k t = joined (λ i. maskFlags (maskAt masks i)) k ++ replicate (2 * t) true
 
 unfoldable pub flags : Frame → List Bool
-flags f = flagsUnder (f .masks) (f .bits) (f .tail)
+flags f = flagsUnder (f .masks) (f .bits) (tail1 f + tail2 f)
 
 module _ {A : Type 0} where
   -- the values of the places that are sent, in order

@@ -15,6 +15,7 @@ use Rattle.refusal.specs.declared.Refusal.the-variants.{Text, Value}
 use Rattle.refusal.specs.declared.Reply.{Reply}
 use Rattle.refusal.specs.declared.Reply.the-variants.{Done, Refused}
 use Rattle.refusal.specs.Refusals.{told, check, _then_}
+use Rattle.trellis.specs.declared.End.the-variants.{Zero}
 use Rattle.trellis.specs.Limits.{channelFits}
 use Rattle.house.specs.House.{house}
 use Rattle.decoder.specs.Decoder.{DecodeCall, DecodeLent, decode}
@@ -90,11 +91,13 @@ valuesOf sheet =
     ++ joined (λ j. tailAt sheet j .sys ∷ tailAt sheet j .par ∷ []) 2
     ++ joined (λ j. tailAt sheet j .sys2 ∷ tailAt sheet j .par2 ∷ []) 2
 
--- the house code, T = 2, eight iterations; every place has its value, as under mask 7
+-- the house code, two zero ends, T = 2, eight iterations; every place has its value, as under mask 7
 unfoldable pub callOf : List ℕ → DecodeCall
 callOf sheet = record {
   frame = record {
     table = house;
+    first = Zero;
+    second = Zero;
     bits = messageBits sheet;
     tail = 2;
     pattern = listed (λ k. messageAt sheet k .to) (messageBits sheet);

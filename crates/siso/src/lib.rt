@@ -1,21 +1,26 @@
-// The lone decoder: one pass over a table that its caller gives.
+// The lone decoder: one pass over a table and an end that its caller gives.
 ghost use mathlib.Core.Path.{_≡_};
 ghost use Rattle.siso.specs.Decode.{decode as decoded};
 ghost use Rattle.siso.specs.Lent.{callOf, lentOf, resultOf};
 
 mod checks;
 mod metric;
+mod pass;
 mod position;
+mod result;
 mod section;
+mod starts;
 mod sweep;
 
 use refusal::Reply;
+use trellis::End;
 
 pub fn decode(
     states: usize,
     outputs: usize,
     next: &[u8],
     words: &[u8],
+    end: End,
     sections: usize,
     channel: &[i16],
     apriori: &[i16],
@@ -27,7 +32,7 @@ pub fn decode(
     ensures { λ r. ⌜
         resultOf r (now (marks .exit)) (now (margins .exit)) (now (extrinsics .exit)) (now (work .exit))
         ≡ decoded
-        (callOf states outputs (now (next .entry)) (now (words .entry)) sections
+        (callOf states outputs (now (next .entry)) (now (words .entry)) end sections
         (now (channel .entry)) (now (apriori .entry)))
         (lentOf (now (marks .entry)) (now (margins .entry)) (now (extrinsics .entry)) (now (work .entry))) ⌝ }
 {
@@ -47,11 +52,12 @@ pub fn decode(
     if let Reply::Refused(_) = reply {
         return reply;
     }
-    sweep::run(
+    pass::run(
         states,
         outputs,
         next,
         words,
+        end,
         sections,
         channel,
         apriori,

@@ -1,56 +1,50 @@
-// The two sweeps of a pass.
-ghost use mathlib.Core.Bool.{cond, false};
-ghost use mathlib.Core.Option.{none, some};
+// The two sweeps of the paths that start in one state: forward metrics into the working list, and best metrics gathered on the way back.
 ghost use mathlib.Core.Path.{_≡_};
-ghost use Prim.Native.Nat.{_+_, _*_, _^_};
-ghost use lib.IntN.{pos, _+ℤ_};
-ghost use lib.ListN.{length, replicate};
-ghost use Rattle.integers.specs.laws.Bounds.{Within};
+ghost use Prim.Native.Nat.{_+_, _*_, _^_, _<_};
+ghost use lib.ListN.{length};
 ghost use Rattle.lists.specs.Lists.{found};
 ghost use Rattle.trellis.specs.Table.{tableOf};
-ghost use Rattle.trellis.specs.Outcome.{pathless, outcomeOf, positionOf};
-ghost use Rattle.trellis.specs.Outcome.{marks as marksOf, margins as marginsOf, extrinsics as extrinsicsOf};
-ghost use Rattle.trellis.specs.laws.Sizes.{Small};
-ghost use Rattle.trellis.specs.laws.Sweeps.{boundary, forward as forwardRow};
-ghost use Rattle.siso.specs.laws.Held.{held};
-ghost use Rattle.siso.specs.Decode.{walked, settled};
-ghost use Rattle.siso.specs.Lent.{valuesOf, callOf, lentOf, resultOf};
-ghost use Rattle.siso.specs.laws.Pass.{Pass, Forward};
-use refusal::Refusal;
-use refusal::Reply;
-use trellis::Position;
+ghost use Rattle.trellis.specs.laws.Sweeps.{starts as startsOf, reachFrom};
+ghost use Rattle.siso.specs.laws.Held.{Raised};
+ghost use Rattle.siso.specs.Lent.{valuesOf};
+ghost use Rattle.siso.specs.laws.Pass.{Pass, Forward, Bests};
+use crate::metric::larger;
+use trellis::End;
 
-// The forward metrics before every section, in the working list; and whether a path reaches the end. The list g takes the metrics of a
-// section's words.
-fn forward(
+// The forward metrics before every section of paths that start in a state, in the working list; and whether one finishes where the end lets it. The
+// list g takes the metrics of a section's words.
+pub fn forward(
     states: usize,
     outputs: usize,
     next: &[u8],
     words: &[u8],
+    end: End,
     sections: usize,
     channel: &[i16],
     apriori: &[i16],
+    start: usize,
     g: &mut [i32],
     work: &mut [i32],
 ) -> bool
     requires { ⌜
         Pass (tableOf states outputs (now next) (now words)) sections
         (valuesOf (now channel) (now apriori)) ⌝ }
+    requires { ⌜ start < startsOf states end ⌝ }
     requires { ⌜ length (now g) ≡ 2 ^ outputs ⌝ }
     requires { ⌜ length (now work) ≡ (sections + 1) * states ⌝ }
     ensures { λ _. ⌜
         Forward
         (tableOf states outputs (now (next .entry)) (now (words .entry)))
         (valuesOf (now (channel .entry)) (now (apriori .entry)))
-        sections (now (work .exit)) ⌝ }
+        start sections (now (work .exit)) ⌝ }
     ensures { λ r. ⌜
         r ≡ found
-        (forwardRow
+        (reachFrom
         (tableOf states outputs (now (next .entry)) (now (words .entry)))
         (valuesOf (now (channel .entry)) (now (apriori .entry)))
-        boundary sections 0) ⌝ }
+        end sections start) ⌝ }
 {
-    let mut m = crate::metric::boundary();
+    let mut m = crate::metric::boundary(start);
     let mut k: usize = 0;
     while k < sections {
         let from = outputs * k;
@@ -69,80 +63,54 @@ fn forward(
         m = after;
         k += 1;
     }
-    let end = m[0];
-    crate::metric::reached(end)
+    crate::metric::arrived(m, crate::metric::ending(end, start), states)
 }
 
-// The intrinsic part of the margin at a section.
-fn intrinsic(y: i16, a: i16, sys: bool) -> i32
-    requires { ⌜ Within 1023 y ⌝ }
-    requires { ⌜ Within 8191 a ⌝ }
-    ensures { λ r. ⌜ r ≡ a +ℤ cond sys y (pos 0) ⌝ }
+// An entry of a list of metrics becomes the larger of it and another metric.
+fn raise(xs: &mut [i32], k: usize, m: i32)
+    requires { ⌜ k < length (now xs) ⌝ }
+    ensures { λ _. ⌜ Raised k m (now (xs .entry)) (now (xs .exit)) ⌝ }
 {
-    if sys { a as i32 + y as i32 } else { a as i32 }
+    let x = xs[k];
+    xs[k] = larger(x, m);
 }
 
-// The position at a section with channel value y and a-priori value a, from the best metrics with bit 0 and with bit 1.
-fn settle(zero: i32, one: i32, sys: bool, y: i16, a: i16) -> Position
-    requires { ⌜ Small 100000000 (held zero) ⌝ }
-    requires { ⌜ Small 100000000 (held one) ⌝ }
-    requires { ⌜ (outcomeOf (held zero) (held one) ≡ none → ⊥) ⌝ }
-    requires { ⌜ Within 1023 y ⌝ }
-    requires { ⌜ Within 8191 a ⌝ }
-    ensures { λ r. ⌜ some r ≡ positionOf (a +ℤ cond sys y (pos 0)) (outcomeOf (held zero) (held one)) ⌝ }
-{
-    let told = intrinsic(y, a, sys);
-    crate::position::settled(zero, one, told)
-}
-
-// The result lists, from the last section to the first.
-fn backward(
+// The best metrics with bit 0 and with bit 1 at every position, of paths that start in one of the states up to this one, from those of paths
+// that start in the states before it. The sweep goes from the last section to the first.
+pub fn gather(
     states: usize,
     outputs: usize,
     next: &[u8],
     words: &[u8],
+    end: End,
     sections: usize,
     channel: &[i16],
     apriori: &[i16],
-    marks: &mut [u8],
-    margins: &mut [i32],
-    extrinsics: &mut [i32],
+    start: usize,
+    zeros: &mut [i32],
+    ones: &mut [i32],
     g: &mut [i32],
     work: &[i32],
 )
     requires { ⌜
         Pass (tableOf states outputs (now next) (now words)) sections
         (valuesOf (now channel) (now apriori)) ⌝ }
-    requires { ⌜ pathless (tableOf states outputs (now next) (now words)) sections ≡ false ⌝ }
+    requires { ⌜ start < startsOf states end ⌝ }
     requires { ⌜ length (now g) ≡ 2 ^ outputs ⌝ }
     requires { ⌜ length (now work) ≡ (sections + 1) * states ⌝ }
     requires { ⌜
         Forward (tableOf states outputs (now next) (now words)) (valuesOf (now channel) (now apriori))
-        sections (now work) ⌝ }
-    requires { ⌜ length (now marks) ≡ sections ⌝ }
-    requires { ⌜ length (now margins) ≡ sections ⌝ }
-    requires { ⌜ length (now extrinsics) ≡ sections ⌝ }
+        start sections (now work) ⌝ }
+    requires { ⌜
+        Bests (tableOf states outputs (now next) (now words)) (valuesOf (now channel) (now apriori))
+        end sections start (now zeros) (now ones) ⌝ }
     ensures { λ _. ⌜
-        now (marks .exit)
-        ≡ marksOf
+        Bests
         (tableOf states outputs (now (next .entry)) (now (words .entry)))
         (valuesOf (now (channel .entry)) (now (apriori .entry)))
-        sections sections ⌝ }
-    ensures { λ _. ⌜
-        now (margins .exit)
-        ≡ marginsOf
-        (tableOf states outputs (now (next .entry)) (now (words .entry)))
-        (valuesOf (now (channel .entry)) (now (apriori .entry)))
-        sections sections ⌝ }
-    ensures { λ _. ⌜
-        now (extrinsics .exit)
-        ≡ extrinsicsOf
-        (tableOf states outputs (now (next .entry)) (now (words .entry)))
-        (valuesOf (now (channel .entry)) (now (apriori .entry)))
-        sections sections ⌝ }
+        end sections (start + 1) (now (zeros .exit)) (now (ones .exit)) ⌝ }
 {
-    let sys = trellis::is_systematic(states, outputs, next, words);
-    let mut m = crate::metric::boundary();
+    let mut m = crate::metric::ending(end, start);
     let mut left = sections;
     while 0 < left {
         let k = left - 1;
@@ -160,87 +128,10 @@ fn backward(
             work,
             states * k,
         );
-        let p = settle(b.zero, b.one, sys, channel[from], a);
+        raise(zeros, k, b.zero);
+        raise(ones, k, b.one);
         let before = b.metrics;
-        crate::position::put(k, p, marks, margins, extrinsics);
         m = before;
         left = k;
     }
-}
-
-// The working list cleared.
-fn clear(work: &mut [i32])
-    ensures { λ _. ⌜ now (work .exit) ≡ replicate (length (now (work .entry))) (pos 0) ⌝ }
-{
-    let mut i: usize = 0;
-    while i < work.len() {
-        work[i] = 0;
-        i += 1;
-    }
-}
-
-// A pass over what the checks accepted.
-pub fn run(
-    states: usize,
-    outputs: usize,
-    next: &[u8],
-    words: &[u8],
-    sections: usize,
-    channel: &[i16],
-    apriori: &[i16],
-    marks: &mut [u8],
-    margins: &mut [i32],
-    extrinsics: &mut [i32],
-    work: &mut [i32],
-) -> Reply
-    requires { ⌜
-        Pass (tableOf states outputs (now next) (now words)) sections
-        (valuesOf (now channel) (now apriori)) ⌝ }
-    requires { ⌜ length (now work) ≡ (sections + 1) * states ⌝ }
-    requires { ⌜ length (now marks) ≡ sections ⌝ }
-    requires { ⌜ length (now margins) ≡ sections ⌝ }
-    requires { ⌜ length (now extrinsics) ≡ sections ⌝ }
-    ensures { λ r. ⌜
-        resultOf r (now (marks .exit)) (now (margins .exit)) (now (extrinsics .exit)) (now (work .exit))
-        ≡ settled
-        (walked
-        (callOf states outputs (now (next .entry)) (now (words .entry)) sections
-        (now (channel .entry)) (now (apriori .entry))))
-        (callOf states outputs (now (next .entry)) (now (words .entry)) sections
-        (now (channel .entry)) (now (apriori .entry)))
-        (lentOf (now (marks .entry)) (now (margins .entry)) (now (extrinsics .entry)) (now (work .entry))) ⌝ }
-{
-    let mut of_words = [0; 16];
-    let g = &mut of_words[..trellis::word_count(outputs)];
-    let path = forward(
-        states,
-        outputs,
-        next,
-        words,
-        sections,
-        channel,
-        apriori,
-        g,
-        work,
-    );
-    if !path {
-        clear(work);
-        return Reply::Refused(Refusal::NoPath);
-    }
-    backward(
-        states,
-        outputs,
-        next,
-        words,
-        sections,
-        channel,
-        apriori,
-        marks,
-        margins,
-        extrinsics,
-        g,
-        work,
-    );
-    clear(work);
-    Reply::Done
 }

@@ -1,7 +1,8 @@
 // One call of each entry: drawn from its seed, answered by both sides, compared in its number, in the index told and in every list.
 use crate::draw::{self, Draw};
+use crate::ends;
 use crate::lent::List;
-use plain::{clears_work, coder, frame_decoder, listing, lone, Refused};
+use plain::{clears_work, coder, frame_decoder, listing, lone, End, Frame, Refused};
 use turbo::raw;
 
 // Numbers are below this; it stands for an answer that is none.
@@ -11,6 +12,8 @@ pub struct Answer {
     pub number: u32,
     // Of a refused sheet; else 0.
     pub line: usize,
+    // Of a call that is told ends: their place.
+    pub ends: Option<usize>,
     pub differences: Vec<String>,
 }
 
@@ -53,8 +56,18 @@ fn work_after(number: u32, length: usize) -> Option<Vec<i32>> {
     clears_work(number).then(|| vec![0; length])
 }
 
-pub fn lone_decode(d: &mut Draw, most: Option<usize>) -> Answer {
-    let (mut call, mut lent) = lone_call(d, most);
+pub fn lone_decode(d: &mut Draw) -> Answer {
+    let end = draw::end(d);
+    lone_damaged(d, end, None)
+}
+
+// The ends in turn.
+pub fn lone_long(d: &mut Draw, index: u64) -> Answer {
+    lone_damaged(d, End::ALL[index as usize % ends::SINGLE], Some(4096))
+}
+
+fn lone_damaged(d: &mut Draw, end: End, most: Option<usize>) -> Answer {
+    let (mut call, mut lent) = lone_call(d, end, most);
     damage_lone(d, &mut call, &mut lent);
     lone_decoded(d, &call, lent)
 }
@@ -77,6 +90,7 @@ fn lone_decoded(d: &mut Draw, call: &lone::Call, lent: lone::Lent) -> Answer {
         t.outputs,
         next.entries(),
         words.entries(),
+        call.end.number(),
         call.sections,
         channel.entries(),
         apriori.entries(),
@@ -101,16 +115,16 @@ fn lone_decoded(d: &mut Draw, call: &lone::Call, lent: lone::Lent) -> Answer {
     x.add(index.check(Some(&[asked_index])));
     // the plain side's recursion against a listing of all paths
     if (asked_number == 0 || asked_number == 12) && call.sections <= 10 {
-        let by_paths = listing::pass(t, call.sections, &call.channel, &call.apriori);
-        let by_recursion = lone::pass(t, call.sections, &call.channel, &call.apriori);
+        let by_paths = listing::pass(t, call.end, call.sections, &call.channel, &call.apriori);
+        let by_recursion = lone::pass(t, call.end, call.sections, &call.channel, &call.apriori);
         if by_paths != by_recursion {
             x.0.push(format!("plain side: {by_recursion:?}, by its listing {by_paths:?}"));
         }
     }
-    Answer { number, line: 0, differences: x.0 }
+    Answer { number, line: 0, ends: ends::place(&[call.end]), differences: x.0 }
 }
 
-fn lone_call(d: &mut Draw, most: Option<usize>) -> (lone::Call, lone::Lent) {
+fn lone_call(d: &mut Draw, end: End, most: Option<usize>) -> (lone::Call, lone::Lent) {
     let outputs = d.size(1, 4);
     let systematic = d.chance(2);
     let table = draw::table(d, outputs, systematic);
@@ -125,13 +139,13 @@ fn lone_call(d: &mut Draw, most: Option<usize>) -> (lone::Call, lone::Lent) {
     let channel = draw::values(d, outputs * sections, 1023);
     let apriori = draw::values(d, sections, 8191);
     let lent = lone::Lent { marks: sections, margins: sections, extrinsics: sections, work: (sections + 1) * table.states };
-    (lone::Call { table, sections, channel, apriori }, lent)
+    (lone::Call { table, end, sections, channel, apriori }, lent)
 }
 
 fn damage_lone(d: &mut Draw, call: &mut lone::Call, lent: &mut lone::Lent) {
     let sections = call.sections;
     for _ in 0..faults(d) {
-        match d.below(13) {
+        match d.below(14) {
             0..=2 => draw::damage_table(d, &mut call.table),
             3 => call.sections = d.of(&[0, 4097, 4098, sections + 1, sections - 1]),
             4 => call.sections = d.of(&draw::WILD),
@@ -154,6 +168,7 @@ fn damage_lone(d: &mut Draw, call: &mut lone::Call, lent: &mut lone::Lent) {
                 let which = if d.chance(2) { &mut lent.margins } else { &mut lent.extrinsics };
                 *which = draw::off(d, *which);
             }
+            12 => call.end = draw::no_end(d),
             _ => lent.work = draw::off(d, lent.work),
         }
     }
@@ -162,7 +177,8 @@ fn damage_lone(d: &mut Draw, call: &mut lone::Call, lent: &mut lone::Lent) {
 // Nothing is wrong but values out of range, in one list or in both.
 pub fn lone_values(d: &mut Draw) -> Answer {
     let most = d.chance(100).then_some(4096);
-    let (mut call, lent) = lone_call(d, most);
+    let end = draw::end(d);
+    let (mut call, lent) = lone_call(d, end, most);
     let which = d.below(3);
     if which != 0 {
         draw::damage_values(d, &mut call.channel, 1023);
@@ -173,13 +189,48 @@ pub fn lone_values(d: &mut Draw) -> Answer {
     lone_decoded(d, &call, lent)
 }
 
-pub fn encode(d: &mut Draw, most: Option<usize>) -> Answer {
-    let most = most.unwrap_or_else(|| short(d));
-    let frame = draw::frame(d, most);
+// A frame and its number of faults.
+fn short_frame(d: &mut Draw) -> (Frame, usize) {
+    let (ends, most) = (draw::ends(d), short(d));
+    (draw::frame(d, ends, most), faults(d))
+}
+
+// The pairs of ends in turn. Every other round has frames without fault that are surely coded and decoded; in the others K + T is often the most
+// there may be, and now and then one more, with lists to fit.
+fn long_frame(d: &mut Draw, index: u64) -> (Frame, usize) {
+    let (round, place) = (index as usize / ends::PAIRS, index as usize % ends::PAIRS);
+    let ends = ends::pair(place);
+    if round % 2 == 0 {
+        return (draw::sure_frame(d, ends, 4096), 0);
+    }
+    let most = match d.below(8) {
+        0 | 1 => 4097,
+        2..=4 => 4096,
+        _ => d.size(1, 4096),
+    };
+    let mut frame = draw::frame(d, ends, most);
+    if most > 4096 || d.chance(2) {
+        frame.bits = most - frame.tail;
+        frame.pattern = draw::permutation(d, frame.bits);
+    }
+    (frame, faults(d))
+}
+
+pub fn encode(d: &mut Draw) -> Answer {
+    let (frame, faults) = short_frame(d);
+    encode_damaged(d, frame, faults)
+}
+
+pub fn encode_long(d: &mut Draw, index: u64) -> Answer {
+    let (frame, faults) = long_frame(d, index);
+    encode_damaged(d, frame, faults)
+}
+
+fn encode_damaged(d: &mut Draw, frame: Frame, faults: usize) -> Answer {
     let mut sent_len = frame.length();
     let message = (0..frame.bits).map(|_| d.below(2) as u8).collect();
     let mut call = coder::Call { frame, message };
-    for _ in 0..faults(d) {
+    for _ in 0..faults {
         match d.below(10) {
             0 | 1 => draw::damage_table(d, &mut call.frame.table),
             2..=6 => draw::damage_frame(d, &mut call.frame),
@@ -212,6 +263,8 @@ pub fn encoded(d: &mut Draw, call: &coder::Call, sent_len: usize) -> Answer {
         t.outputs,
         next.entries(),
         words.entries(),
+        f.ends[0].number(),
+        f.ends[1].number(),
         f.bits,
         f.tail,
         message.entries(),
@@ -227,11 +280,11 @@ pub fn encoded(d: &mut Draw, call: &coder::Call, sent_len: usize) -> Answer {
     x.add(pattern.check(None));
     x.add(masks.check(None));
     x.add(sent.check(asked.as_deref().ok()));
-    Answer { number, line: 0, differences: x.0 }
+    Answer { number, line: 0, ends: ends::place(&f.ends), differences: x.0 }
 }
 
 // Received values: any, or those of a coded message with noise, so that iterations have something to find.
-pub fn received(d: &mut Draw, frame: &plain::Frame) -> Vec<i16> {
+pub fn received(d: &mut Draw, frame: &Frame) -> Vec<i16> {
     let length = frame.length();
     if d.chance(2) {
         let message = (0..frame.bits).map(|_| d.below(2) as u8).collect();
@@ -245,33 +298,28 @@ pub fn received(d: &mut Draw, frame: &plain::Frame) -> Vec<i16> {
 }
 
 // Lists of the lengths that the frame decoder asks for.
-pub fn lent_for(frame: &plain::Frame) -> frame_decoder::Lent {
+pub fn lent_for(frame: &Frame) -> frame_decoder::Lent {
     let k = frame.bits;
-    frame_decoder::Lent { bits: k, margins: k, extrinsics: k, work: (k + frame.tail + 1) * frame.table.states }
+    frame_decoder::Lent { bits: k, margins: k, extrinsics: k, work: frame.work() as usize }
 }
 
-pub fn decode(d: &mut Draw, most: Option<usize>) -> Answer {
-    let iterations = if most.is_some() || d.chance(4) { d.size(1, 32) } else { d.size(1, 4) };
-    let frame = match most {
-        // In long frames K + T is often the most there may be.
-        Some(most) => {
-            let most = if d.chance(2) { most } else { d.size(1, most) };
-            let mut f = draw::frame(d, most);
-            if d.chance(2) {
-                f.bits = most - f.tail;
-                f.pattern = draw::permutation(d, f.bits);
-            }
-            f
-        }
-        None => {
-            let most = short(d);
-            draw::frame(d, most)
-        }
-    };
+pub fn decode(d: &mut Draw) -> Answer {
+    let iterations = if d.chance(4) { d.size(1, 32) } else { d.size(1, 4) };
+    let (frame, faults) = short_frame(d);
+    decode_damaged(d, frame, iterations, faults)
+}
+
+pub fn decode_long(d: &mut Draw, index: u64) -> Answer {
+    let iterations = d.size(1, 32);
+    let (frame, faults) = long_frame(d, index);
+    decode_damaged(d, frame, iterations, faults)
+}
+
+fn decode_damaged(d: &mut Draw, frame: Frame, iterations: usize, faults: usize) -> Answer {
     let received = received(d, &frame);
     let mut lent = lent_for(&frame);
     let mut call = frame_decoder::Call { frame, received, iterations };
-    for _ in 0..faults(d) {
+    for _ in 0..faults {
         match d.below(14) {
             0 | 1 => draw::damage_table(d, &mut call.frame.table),
             2..=6 => draw::damage_frame(d, &mut call.frame),
@@ -295,7 +343,8 @@ pub fn decode(d: &mut Draw, most: Option<usize>) -> Answer {
 // Values out of range, alone or beside a fault whose number stands after 6. Without right masks the frame's list may have any length.
 pub fn decode_values(d: &mut Draw) -> Answer {
     let most = if d.chance(100) { 4096 } else { short(d) };
-    let mut frame = draw::frame(d, most);
+    let ends = draw::ends(d);
+    let mut frame = draw::frame(d, ends, most);
     // something is sent
     if frame.length() == 0 {
         frame.masks = vec![7];
@@ -336,6 +385,8 @@ pub fn decoded(d: &mut Draw, call: &frame_decoder::Call, lent: frame_decoder::Le
         t.outputs,
         next.entries(),
         words.entries(),
+        f.ends[0].number(),
+        f.ends[1].number(),
         f.bits,
         f.tail,
         pattern.entries(),
@@ -362,7 +413,7 @@ pub fn decoded(d: &mut Draw, call: &frame_decoder::Call, lent: frame_decoder::Le
     x.add(extrinsics.check(results.map(|l| &l.extrinsics[..])));
     x.add(work.check(work_after(asked_number, lent.work).as_deref()));
     x.add(index.check(Some(&[asked_index])));
-    Answer { number, line: 0, differences: x.0 }
+    Answer { number, line: 0, ends: ends::place(&f.ends), differences: x.0 }
 }
 
 // Both lists of the house code, at every length up to 20: one of the calls' index.
@@ -377,5 +428,5 @@ pub fn house(d: &mut Draw, length: usize) -> Answer {
     x.0.extend(Differences::new(other, asked).0);
     x.add(next.check((asked == 0).then_some(&table.next[..])));
     x.add(words.check((asked == 0).then_some(&table.words[..])));
-    Answer { number, line: 0, differences: x.0 }
+    Answer { number, line: 0, ends: None, differences: x.0 }
 }

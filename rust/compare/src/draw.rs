@@ -1,5 +1,5 @@
 // Drawn numbers, tables, values and lists. Everything comes from the seed of the call.
-use plain::{house, Frame, Table};
+use plain::{house, End, Frame, Table};
 
 // SplitMix64.
 pub struct Draw(u64);
@@ -54,8 +54,21 @@ pub fn permutation(d: &mut Draw, n: usize) -> Vec<u32> {
     p
 }
 
+pub fn end(d: &mut Draw) -> End {
+    d.of(&End::ALL)
+}
+
+pub fn ends(d: &mut Draw) -> [End; 2] {
+    [end(d), end(d)]
+}
+
+// A number that names no end; cut to fewer bits some do.
+pub fn no_end(d: &mut Draw) -> End {
+    End::Unknown(d.of(&[3, 4, 5, 7, 255, 256, 257, 258, 1 << 16, (1 << 16) + 1, 1 << 31, (1 << 31) + 2, u32::MAX]))
+}
+
 fn next_states(d: &mut Draw, states: usize) -> Vec<u8> {
-    match d.below(8) {
+    match d.below(9) {
         // any table
         0..=2 => (0..2 * states).map(|_| d.below(states) as u8).collect(),
         // each bit permutes the states, as in a code of the trade
@@ -70,6 +83,12 @@ fn next_states(d: &mut Draw, states: usize) -> Vec<u8> {
         }
         // the next state is the input
         6 => (0..2 * states).map(|i| (i % 2 % states) as u8).collect(),
+        // groups of states follow each other in a circle, so that none comes back but after a multiple of their number of sections
+        7 => {
+            let groups = d.size(1, 4).min(states);
+            let of_group = |d: &mut Draw, group: usize| group + groups * d.below((states - group).div_ceil(groups));
+            (0..2 * states).map(|i| of_group(d, (i / 2 + 1) % groups) as u8).collect()
+        }
         // few states are reached, so that there may be no path or a forced position
         _ => {
             let few = [d.below(states), d.below(states)];
@@ -118,11 +137,20 @@ pub fn masks(d: &mut Draw) -> Vec<u8> {
 }
 
 // A frame in limits. `most` bounds K + T.
-pub fn frame(d: &mut Draw, most: usize) -> Frame {
+pub fn frame(d: &mut Draw, ends: [End; 2], most: usize) -> Frame {
     let tail = d.below(5).min(most - 1);
     let bits = d.size(1, most - tail);
     let masks = masks(d);
-    Frame { table: table(d, 2, true), bits, tail, pattern: permutation(d, bits), masks }
+    Frame { table: table(d, 2, true), ends, bits, tail, pattern: permutation(d, bits), masks }
+}
+
+// A frame of the house code that is surely coded and decoded: two or more tail sections lead back from every state, and where K is no multiple of
+// three every message brings one state back to itself.
+pub fn sure_frame(d: &mut Draw, ends: [End; 2], most: usize) -> Frame {
+    let tail = if ends.contains(&End::Zero) { d.size(2, 4) } else { d.below(5) };
+    let bits = if d.chance(2) { most - tail } else { d.size(2, most - tail) };
+    let bits = if bits % 3 == 0 { bits - 1 } else { bits };
+    Frame { table: house::table(), ends, bits, tail, pattern: permutation(d, bits), masks: masks(d) }
 }
 
 pub const WILD: [usize; 5] = [1 << 63, usize::MAX, usize::MAX - 1, 1 << 32, (1 << 63) + 1];
@@ -185,7 +213,7 @@ pub fn damage_values(d: &mut Draw, values: &mut [i16], limit: i16) {
 
 // One fault of a frame, the table's and its own list's aside.
 pub fn damage_frame(d: &mut Draw, f: &mut Frame) {
-    match d.below(11) {
+    match d.below(14) {
         0 => f.bits = d.of(&[0, 4097, 4096, f.bits.wrapping_add(1), f.bits.wrapping_sub(1), usize::MAX, usize::MAX - 3]),
         1 => f.tail = d.of(&[5, 4, 6, usize::MAX, usize::MAX - 1]),
         2 => {
@@ -209,6 +237,9 @@ pub fn damage_frame(d: &mut Draw, f: &mut Frame) {
             f.masks[at] = d.of(&[8, 15, 128, 255]);
         }
         9 => f.table.outputs = d.of(&[1, 3, 4]),
+        10 => f.ends[d.below(2)] = no_end(d),
+        // The lists stay as the other end asked for them.
+        11 | 12 => f.ends[d.below(2)] = end(d),
         _ if !f.table.words.is_empty() => {
             let at = d.below(f.table.words.len());
             f.table.words[at] ^= 1;

@@ -1,10 +1,10 @@
 //! Random calls of the static library against the plain receiver: tables of every size, frames short and long, sheets of every K, valid and
-//! damaged calls; sheets with the answers that document 01 asks for; every table from taps, every polynomial pattern of up to 200 entries, and
-//! frames over such tables. The number returned, the index told with it, every list written, every list read and what stands beside each list are
-//! compared. Exit status 1 on any difference, or where a number that an entry can give, or a line that it must tell, was never given, or where
-//! one was given that it must not give.
+//! damaged calls, each end and each pair of ends; sheets with the answers that document 01 asks for; every table from taps, every polynomial pattern
+//! of up to 200 entries, and frames over such tables. The number returned, the index told with it, every list written, every list read and what
+//! stands beside each list are compared. Exit status 1 on any difference, or where a number that an entry can give, by any end or pair of ends too,
+//! or a line that it must tell, was never given, or where one was given that it must not give.
 //!
-//!     compare                   120,000 short calls and 260 long ones; 20,000 with values out of range; all 680 tables from taps and 20,000
+//!     compare                   120,000 short calls and 261 long ones; 20,000 with values out of range; all 680 tables from taps and 20,000
 //!                               damaged calls for one; the patterns of all 2,686,700 polynomials with K up to 200, and 20,000 drawn and damaged
 //!                               ones up to 4,096; 20,000 frames over tables from taps; 1,024 sheets of every K, 515 with a fault in each line,
 //!                               16,383 with each set of loud values of a small sheet, 1,544 with each value of the largest loud, 35,000
@@ -15,6 +15,7 @@
 //!     compare --call STAGE I    one call again, by the index that a difference names
 mod calls;
 mod draw;
+mod ends;
 mod hints;
 mod lent;
 mod sheet_cases;
@@ -24,6 +25,7 @@ mod taps;
 
 use calls::{Answer, NUMBERS};
 use draw::Draw;
+use ends::{PAIRS, SINGLE};
 use sheet_cases::CASES;
 use std::ops::Range;
 use std::process::exit;
@@ -40,12 +42,14 @@ struct Stage {
     // The lines that must each be told with 1, and those with 6.
     lines: Range<usize>,
     loud: Range<usize>,
+    // How many places ends have, each of which must be answered by 0; none where ends are not asked for.
+    ends: usize,
     // There are no more calls than these.
     once: bool,
 }
 
 // What most stages have in common.
-const EACH: Stage = Stage { name: "", calls: 0, run: |_, _| unreachable!(), numbers: &[], all: true, lines: 0..0, loud: 0..0, once: false };
+const EACH: Stage = Stage { name: "", calls: 0, run: |_, _| unreachable!(), numbers: &[], all: true, lines: 0..0, loud: 0..0, ends: 0, once: false };
 
 const LONE: &[u32] = &[0, 2, 3, 4, 5, 6, 12, 16];
 const CODER: &[u32] = &[0, 2, 3, 4, 5, 7, 8, 9, 11, 14];
@@ -58,19 +62,19 @@ const HINT: &[u32] = &[0, 1, 2, 3, 4, 5, 6, 7, 8, 9];
 
 const STAGES: &[Stage] = &[
     Stage { name: "house", calls: 21, run: |d, i| calls::house(d, i as usize), numbers: &[0, 5], once: true, ..EACH },
-    Stage { name: "lone", calls: 40_000, run: |d, _| calls::lone_decode(d, None), numbers: LONE, ..EACH },
-    Stage { name: "coder", calls: 40_000, run: |d, _| calls::encode(d, None), numbers: CODER, ..EACH },
-    Stage { name: "decoder", calls: 40_000, run: |d, _| calls::decode(d, None), numbers: DECODER, ..EACH },
+    Stage { name: "lone", calls: 40_000, run: |d, _| calls::lone_decode(d), numbers: LONE, ends: SINGLE, ..EACH },
+    Stage { name: "coder", calls: 40_000, run: |d, _| calls::encode(d), numbers: CODER, ends: PAIRS, ..EACH },
+    Stage { name: "decoder", calls: 40_000, run: |d, _| calls::decode(d), numbers: DECODER, ends: PAIRS, ..EACH },
     Stage { name: "lone-values", calls: 10_000, run: |d, _| calls::lone_values(d), numbers: &[6, 16], ..EACH },
     Stage { name: "decoder-values", calls: 10_000, run: |d, _| calls::decode_values(d), numbers: &[6], ..EACH },
-    Stage { name: "lone-long", calls: 100, run: |d, _| calls::lone_decode(d, Some(4096)), numbers: LONE, all: false, ..EACH },
-    Stage { name: "coder-long", calls: 100, run: |d, _| calls::encode(d, Some(4096)), numbers: CODER, all: false, ..EACH },
-    Stage { name: "decoder-long", calls: 60, run: |d, _| calls::decode(d, Some(4096)), numbers: DECODER, all: false, ..EACH },
+    Stage { name: "lone-long", calls: 99, run: calls::lone_long, numbers: LONE, all: false, ends: SINGLE, ..EACH },
+    Stage { name: "coder-long", calls: 99, run: calls::encode_long, numbers: CODER, all: false, ends: PAIRS, ..EACH },
+    Stage { name: "decoder-long", calls: 63, run: calls::decode_long, numbers: DECODER, all: false, ends: PAIRS, ..EACH },
     Stage { name: "taps", calls: taps::CODES, run: taps::every_table, numbers: &[0], once: true, ..EACH },
     Stage { name: "taps-damaged", calls: 20_000, run: |d, _| taps::damaged_table(d), numbers: TABLE, ..EACH },
     Stage { name: "polynomials", calls: taps::POLYNOMIALS, run: taps::every_pattern, numbers: &[0, 8], once: true, ..EACH },
     Stage { name: "polynomials-drawn", calls: 20_000, run: |d, _| taps::drawn_pattern(d), numbers: PATTERN, ..EACH },
-    // As many tail sections as register bits: no frame is refused, so never by 12, 13 or 14.
+    // Two zero ends and as many tail sections as register bits: no frame is refused, so never by 12, 13 or 14.
     Stage { name: "taps-coder", calls: 10_000, run: |d, _| taps::encode(d), numbers: &[0], ..EACH },
     Stage { name: "taps-decoder", calls: 10_000, run: |d, _| taps::decode(d), numbers: &[0], ..EACH },
     Stage { name: "sheet-cases", calls: CASES.len() as u64, run: sheets::case, numbers: SHEET, lines: 0..5, loud: 2..5, once: true, ..EACH },
@@ -103,12 +107,14 @@ fn number(word: Option<String>) -> u64 {
 fn run(s: &Stage, seed: u64, times: u64) -> bool {
     let calls = if s.once { s.calls } else { s.calls * times };
     let (mut given, mut lines, mut loud) = (vec![0u64; NUMBERS as usize + 1], vec![0u64; 1 << 10], vec![0u64; 1 << 10]);
+    let mut by_ends = vec![vec![0u64; NUMBERS as usize + 1]; s.ends + 1];
     let (mut differing, mut told) = (0, Instant::now());
     for i in 0..calls {
         let answer = (s.run)(&mut Draw::for_call(seed, s.name, i), i);
         given[answer.number.min(NUMBERS) as usize] += 1;
         lines[answer.line.min(1023)] += (answer.number == 1) as u64;
         loud[answer.line.min(1023)] += (answer.number == 6) as u64;
+        by_ends[answer.ends.unwrap_or(s.ends).min(s.ends)][answer.number.min(NUMBERS) as usize] += 1;
         if !answer.differences.is_empty() {
             differing += 1;
             if differing <= 3 {
@@ -122,7 +128,9 @@ fn run(s: &Stage, seed: u64, times: u64) -> bool {
     }
     let counts: Vec<String> = (0..given.len()).filter(|&n| given[n] > 0).map(|n| format!("{n}:{}", given[n])).collect();
     println!("{}: seed {seed}, {calls} calls, {differing} differ; numbers given {}", s.name, counts.join(" "));
-    all_given(s, &given) & all_told(s.name, 1, &s.lines, &lines) & all_told(s.name, 6, &s.loud, &loud) & (differing == 0)
+    let lines_told = all_told(s.name, 1, &s.lines, &lines) & all_told(s.name, 6, &s.loud, &loud);
+    let ends_answered = s.ends == 0 || ends::all_answered(s.name, s.numbers, s.all, &by_ends);
+    all_given(s, &given) & lines_told & ends_answered & (differing == 0)
 }
 
 // The numbers given are those of the stage.

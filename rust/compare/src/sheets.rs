@@ -4,7 +4,7 @@ use crate::draw::{permutation, Draw};
 use crate::lent::List;
 use crate::sheet_cases::CASES;
 use crate::sheet_faults;
-use plain::{house, sheet, Frame};
+use plain::{house, sheet, End, Frame};
 use turbo::raw;
 
 pub const HEADER: &str = "at to sys par par2 sys2";
@@ -30,7 +30,7 @@ fn unsent(d: &mut Draw, bits: usize) -> Vec<[bool; 3]> {
 // A valid sheet, line by line.
 pub fn lines(d: &mut Draw, bits: usize) -> Vec<String> {
     let pattern = if d.chance(8) { (0..bits as u32).collect() } else { permutation(d, bits) };
-    let frame = Frame { table: house::table(), bits, tail: 2, pattern, masks: vec![7] };
+    let frame = Frame { table: house::table(), ends: [End::Zero; 2], bits, tail: 2, pattern, masks: vec![7] };
     let values = received(d, &frame);
     let unsent = unsent(d, bits);
     let mut lines = vec![HEADER.to_string()];
@@ -89,7 +89,7 @@ fn compared(d: &mut Draw, sheet: &[u8], asked: &[u8]) -> Answer {
         differences.push(format!("the sheet \"{}\", the answer \"{}\", asked \"{}\"", shown(sheet), shown(exact.entries()), shown(asked)));
     }
     let (number, line) = outcome(exact.entries());
-    Answer { number, line, differences }
+    Answer { number, line, ends: None, differences }
 }
 
 fn by_plain(d: &mut Draw, sheet: &[u8]) -> Answer {

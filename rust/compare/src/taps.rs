@@ -3,7 +3,7 @@ use crate::calls::{self, Answer, Differences};
 use crate::draw::{self, Draw};
 use crate::lent::List;
 use plain::taps::{self, Code, Polynomial};
-use plain::{coder, frame_decoder, Frame};
+use plain::{coder, frame_decoder, End, Frame};
 use turbo::raw;
 
 const EIGHT_STATES: Code = Code { memory: 3, feedback: 13, parity: 11 };
@@ -49,7 +49,7 @@ fn answer(number: u32, mut x: Differences, call: impl std::fmt::Debug) -> Answer
     if !x.0.is_empty() {
         x.0.push(format!("{call:?}"));
     }
-    Answer { number, line: 0, differences: x.0 }
+    Answer { number, line: 0, ends: None, differences: x.0 }
 }
 
 fn table(d: &mut Draw, code: Code, lengths: [usize; 2]) -> Answer {
@@ -167,14 +167,14 @@ fn permuting(d: &mut Draw, bits: usize) -> Vec<u32> {
     }
 }
 
-// A frame with as many tail sections as register bits, every fourth with the eight-state code, and half with a polynomial pattern.
+// A frame with two zero ends and as many tail sections as register bits, every fourth with the eight-state code, and half with a polynomial pattern.
 fn frame(d: &mut Draw) -> Frame {
     let code = if d.chance(4) { EIGHT_STATES } else { code(d.below(CODES as usize) as u64) };
     let table = taps::table(&code, [branches(code.memory); 2]).expect("a code in range");
     let most = if d.chance(500) { 4096 } else { calls::short(d) };
     let bits = d.size(1, most - code.memory);
     let pattern = if d.chance(2) { permuting(d, bits) } else { draw::permutation(d, bits) };
-    Frame { table, bits, tail: code.memory, pattern, masks: draw::masks(d) }
+    Frame { table, ends: [End::Zero; 2], bits, tail: code.memory, pattern, masks: draw::masks(d) }
 }
 
 pub fn encode(d: &mut Draw) -> Answer {

@@ -1,6 +1,6 @@
 //! The frame decoder.
-use crate::lone::{extrinsic, pass, Outcome};
-use crate::{rules, Frame, Refused};
+use crate::lone::{self, Outcome};
+use crate::{rules, End, Frame, Refused};
 
 #[derive(Clone, Debug)]
 pub struct Call {
@@ -49,8 +49,9 @@ fn sorted_out(f: &Frame, received: &[i16]) -> Received {
             r.parity2[k] = left.next().unwrap();
         }
     }
-    r.tail1.extend(left.by_ref().take(2 * f.tail));
-    r.tail2.extend(left.by_ref().take(2 * f.tail));
+    let [tail1, tail2] = f.tails();
+    r.tail1.extend(left.by_ref().take(2 * tail1));
+    r.tail2.extend(left.by_ref().take(2 * tail2));
     assert!(left.next().is_none());
     r
 }
@@ -61,38 +62,55 @@ fn handed_over(e: i64) -> i16 {
     (3 * e / 4).clamp(-limit, limit) as i16
 }
 
-// The margins and extrinsics of the K message positions of a pass, in its own order. `handed` are its K a-priori values.
-fn soft(f: &Frame, channel: &[i16], handed: &[i16]) -> Result<Vec<(i64, i64)>, u32> {
-    let mut apriori = handed.to_vec();
-    apriori.resize(f.bits + f.tail, 0);
-    let outcomes = pass(&f.table, f.bits + f.tail, channel, &apriori).ok_or(12u32)?;
-    (0..f.bits)
-        .map(|k| match outcomes[k] {
-            Outcome::Forced(_) => Err(13),
-            Outcome::Free(margin) => Ok((margin, extrinsic(&f.table, outcomes[k], k, channel, &apriori))),
-        })
-        .collect()
+// One of the two coders as its pass sees it: its end, and systematic and parity of each of its sections.
+struct Coder {
+    end: End,
+    channel: Vec<i16>,
 }
 
-pub fn decode(call: &Call, lent: Lent) -> Result<Lists, Refused> {
+fn coders(f: &Frame, received: &[i16]) -> [Coder; 2] {
+    let r = sorted_out(f, received);
+    let channel1 = (0..f.bits).flat_map(|i| [r.systematic[i], r.parity1[i]]).chain(r.tail1.iter().copied()).collect();
+    let channel2 = (0..f.bits).flat_map(|i| [r.systematic[f.pattern[i] as usize], r.parity2[i]]).chain(r.tail2.iter().copied()).collect();
+    [Coder { end: f.ends[0], channel: channel1 }, Coder { end: f.ends[1], channel: channel2 }]
+}
+
+// A pass over a coder. `handed` are its first a-priori values; the others are 0.
+fn pass(f: &Frame, c: &Coder, handed: &[i16]) -> Option<Vec<(Outcome, i64)>> {
+    let sections = c.channel.len() / 2;
+    let mut apriori = handed.to_vec();
+    apriori.resize(sections, 0);
+    let outcomes = lone::pass(&f.table, c.end, sections, &c.channel, &apriori)?;
+    Some((0..sections).map(|k| (outcomes[k], lone::extrinsic(&f.table, outcomes[k], k, &c.channel, &apriori))).collect())
+}
+
+// 12 and 13, by a pass over each coder: which paths there are depends on no value, so whatever was received and handed over will do.
+fn settled(f: &Frame, coders: &[Coder; 2]) -> Option<u32> {
+    let passes = [pass(f, &coders[0], &[]), pass(f, &coders[1], &[])];
+    let forced = |p: &Vec<(Outcome, i64)>| p[..f.bits].iter().any(|(o, _)| matches!(o, Outcome::Forced(_)));
+    rules::lowest(&[(12, passes.iter().any(Option::is_none)), (13, passes.iter().flatten().any(forced))])
+}
+
+// The margins and extrinsics of the K message positions of a pass, in its own order.
+fn soft(f: &Frame, c: &Coder, handed: &[i16]) -> Vec<(i64, i64)> {
+    let positions = pass(f, c, handed).expect("a path, as settled");
+    let free = |&(outcome, extrinsic): &(Outcome, i64)| match outcome {
+        Outcome::Free(margin) => (margin, extrinsic),
+        Outcome::Forced(_) => unreachable!("a forced position, though settled"),
+    };
+    positions[..f.bits].iter().map(free).collect()
+}
+
+fn refused(call: &Call, lent: Lent) -> Result<(), Refused> {
     let f = &call.frame;
     let k = f.bits as u128;
     let loud = rules::outside(&call.received, rules::CHANNEL_LIMIT);
+    let lists = [(f.pattern.len(), k), (lent.bits, k), (lent.margins, k), (lent.extrinsics, k), (lent.work, f.work())];
     let applying = [
-        (2, rules::shape(&f.table)),
+        (2, rules::shape(&f.table) || rules::ends(&f.ends)),
         (3, rules::branch(&f.table)),
         (4, rules::sizes(f)),
-        (
-            5,
-            rules::lists(&[
-                (f.pattern.len(), k),
-                (lent.bits, k),
-                (lent.margins, k),
-                (lent.extrinsics, k),
-                // Where the sum or a factor is out of limits a lower number applies.
-                (lent.work, (k + f.tail as u128 + 1).saturating_mul(f.table.states as u128)),
-            ]) || rules::frame_list(f, call.received.len()),
-        ),
+        (5, rules::lists(&lists) || rules::frame_list(f, call.received.len())),
         (6, !loud.is_empty()),
         (8, rules::pattern(f)),
         (9, rules::mask(f)),
@@ -100,34 +118,37 @@ pub fn decode(call: &Call, lent: Lent) -> Result<Lists, Refused> {
         (11, rules::coder(f)),
     ];
     match rules::lowest(&applying) {
-        Some(6) => return Err(Refused { number: 6, index: loud[0] }),
-        Some(number) => return Err(number.into()),
-        None => {}
+        Some(6) => Err(Refused { number: 6, index: loud[0] }),
+        Some(number) => Err(number.into()),
+        None => Ok(()),
     }
+}
 
-    let r = sorted_out(f, &call.received);
-    let pattern: Vec<usize> = f.pattern.iter().map(|&p| p as usize).collect();
-    let channel1: Vec<i16> = (0..f.bits).flat_map(|i| [r.systematic[i], r.parity1[i]]).chain(r.tail1.iter().copied()).collect();
-    let channel2: Vec<i16> = (0..f.bits).flat_map(|i| [r.systematic[pattern[i]], r.parity2[i]]).chain(r.tail2.iter().copied()).collect();
-
+pub fn decode(call: &Call, lent: Lent) -> Result<Lists, Refused> {
+    refused(call, lent)?;
+    let f = &call.frame;
+    let coders = coders(f, &call.received);
+    if let Some(number) = settled(f, &coders) {
+        return Err(number.into());
+    }
     // In message order, what pass 2 last handed to pass 1.
     let mut handed_back = vec![0i16; f.bits];
     let mut last = Vec::new();
     for _ in 0..call.iterations {
-        let first = soft(f, &channel1, &handed_back)?;
-        let handed_on: Vec<i16> = pattern.iter().map(|&p| handed_over(first[p].1)).collect();
-        last = soft(f, &channel2, &handed_on)?;
-        for (i, &p) in pattern.iter().enumerate() {
-            handed_back[p] = handed_over(last[i].1);
+        let first = soft(f, &coders[0], &handed_back);
+        let handed_on: Vec<i16> = f.pattern.iter().map(|&p| handed_over(first[p as usize].1)).collect();
+        last = soft(f, &coders[1], &handed_on);
+        for (i, &p) in f.pattern.iter().enumerate() {
+            handed_back[p as usize] = handed_over(last[i].1);
         }
     }
 
     let mut l = Lists { bits: vec![0; f.bits], margins: vec![0; f.bits], extrinsics: vec![0; f.bits] };
-    for (i, &p) in pattern.iter().enumerate() {
+    for (i, &p) in f.pattern.iter().enumerate() {
         let (margin, extrinsic) = last[i];
-        l.bits[p] = (margin >= 0) as u8;
-        l.margins[p] = i32::try_from(margin).unwrap();
-        l.extrinsics[p] = i32::try_from(extrinsic).unwrap();
+        l.bits[p as usize] = (margin >= 0) as u8;
+        l.margins[p as usize] = i32::try_from(margin).unwrap();
+        l.extrinsics[p as usize] = i32::try_from(extrinsic).unwrap();
     }
     Ok(l)
 }

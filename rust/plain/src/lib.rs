@@ -1,5 +1,5 @@
-//! The receiver again, written plainly from document 01 and requests 1 and 2 of document 02, with code and structure of its own: to compare with,
-//! not to use. Where a sentence about sheets is unclear, it is read as docs/DECISIONS.md says.
+//! The receiver again, written plainly from document 01 and requests 1, 2, 4 and 7 of document 02, with code and structure of its own: to compare
+//! with, not to use. Where a sentence about sheets or ends is unclear, it is read as docs/DECISIONS.md says.
 //!
 //! Refusals are rule by rule: every number that applies is gathered, and the lowest is given. Sizes are compared as 128-bit numbers, so no
 //! product wraps. Metrics are 64-bit, and an unreached state has none.
@@ -13,6 +13,42 @@ pub mod lone;
 mod rules;
 pub mod sheet;
 pub mod taps;
+
+/// From which states to which the paths of a coder lead.
+#[derive(Clone, Copy, Debug, PartialEq, Eq)]
+pub enum End {
+    /// From state 0 to state 0.
+    Zero,
+    /// From state 0 to any state.
+    Open,
+    /// From any state back to the same one.
+    Ring,
+    /// A number that names no end.
+    Unknown(u32),
+}
+
+impl End {
+    pub const ALL: [End; 3] = [End::Zero, End::Open, End::Ring];
+
+    pub fn number(self) -> u32 {
+        match self {
+            End::Zero => 0,
+            End::Open => 1,
+            End::Ring => 2,
+            End::Unknown(number) => number,
+        }
+    }
+
+    /// Whether a path from the first state to the last is one of this end.
+    fn leads(self, first: usize, last: usize) -> bool {
+        match self {
+            End::Zero => first == 0 && last == 0,
+            End::Open => first == 0,
+            End::Ring => first == last,
+            End::Unknown(_) => false,
+        }
+    }
+}
 
 /// S states and n outputs, as told, and the lists of next states and words, which hold the branch of state s and bit b at 2·s + b.
 #[derive(Clone, Debug)]
@@ -39,10 +75,11 @@ impl Table {
     }
 }
 
-/// What coder and decoder of a frame are both told.
+/// What coder and decoder of a frame are both told. The ends are those of coder 1 and of coder 2.
 #[derive(Clone, Debug)]
 pub struct Frame {
     pub table: Table,
+    pub ends: [End; 2],
     pub bits: usize,
     pub tail: usize,
     pub pattern: Vec<u32>,
@@ -54,14 +91,27 @@ impl Frame {
         self.masks[k % self.masks.len()]
     }
 
-    /// Over the K positions, the number of ones in the masks, plus 4·T.
+    /// The tail sections of coder 1 and of coder 2: only one that ends at zero has any.
+    pub fn tails(&self) -> [usize; 2] {
+        self.ends.map(|end| if end == End::Zero { self.tail } else { 0 })
+    }
+
+    /// Over the K positions, the number of ones in the masks, plus two for each tail section of either coder.
     pub fn length(&self) -> usize {
         let mut ones = 0;
         for k in 0..self.bits {
             let m = self.mask(k) as usize;
             ones += (m & 1) + (m >> 1 & 1) + (m >> 2 & 1);
         }
-        ones + 4 * self.tail
+        let [tail1, tail2] = self.tails();
+        ones + 2 * tail1 + 2 * tail2
+    }
+
+    /// The entries of the decoder's working list: (L+1)·S, L being the sections of the longer coder. Out of limits it is only large.
+    pub fn work(&self) -> u128 {
+        let [tail1, tail2] = self.tails();
+        let longer = self.bits as u128 + tail1.max(tail2) as u128;
+        (longer + 1).saturating_mul(self.table.states as u128)
     }
 }
 

@@ -1,9 +1,10 @@
 //! The lone decoder.
-use crate::{rules, Refused, Table};
+use crate::{rules, End, Refused, Table};
 
 #[derive(Clone, Debug)]
 pub struct Call {
     pub table: Table,
+    pub end: End,
     pub sections: usize,
     pub channel: Vec<i16>,
     pub apriori: Vec<i16>,
@@ -25,64 +26,105 @@ pub enum Outcome {
     Forced(u8),
 }
 
-/// The outcomes of all positions, or none where there is no path. The table and the lengths are right.
-pub fn pass(t: &Table, sections: usize, channel: &[i16], apriori: &[i16]) -> Option<Vec<Outcome>> {
-    let n = t.outputs;
-    let branch = |k: usize, s: usize, b: usize| -> i64 {
-        let signed = |bit: usize, v: i16| if bit == 1 { v as i64 } else { -(v as i64) };
+// Starts are kept apart: a path is in a pair, the state that it started in and the one that it has come to. A row has a metric for each pair, at
+// start·S + state, and none where no path is in it.
+type Row = Vec<Option<i64>>;
+
+// What a branch does to a path of some start: from pair to pair. `branch` is 2·state + bit.
+struct Move {
+    from: usize,
+    to: usize,
+    branch: usize,
+}
+
+// Only a ring's paths start in other states than 0.
+fn starts(t: &Table, end: End) -> usize {
+    if end == End::Ring { t.states } else { 1 }
+}
+
+fn moves(t: &Table, end: End) -> Vec<Move> {
+    let of_start = |start: usize| {
+        let pair = move |s: usize| start * t.states + s;
+        (0..2 * t.states).map(move |branch| Move { from: pair(branch / 2), to: pair(t.next_state(branch / 2, branch % 2)), branch })
+    };
+    (0..starts(t, end)).flat_map(of_start).collect()
+}
+
+// A metric of 0 for the pairs that are asked for by start and state.
+fn row_of(t: &Table, end: End, asked: impl Fn(usize, usize) -> bool) -> Row {
+    let pairs = (0..starts(t, end)).flat_map(|start| (0..t.states).map(move |s| (start, s)));
+    pairs.map(|(start, s)| asked(start, s).then_some(0)).collect()
+}
+
+// What each branch adds to a metric in section k.
+fn gains(t: &Table, k: usize, channel: &[i16], apriori: &[i16]) -> Vec<i64> {
+    let signed = |bit: usize, v: i16| if bit == 1 { v as i64 } else { -(v as i64) };
+    let of_branch = |branch: usize| {
+        let (s, b) = (branch / 2, branch % 2);
         let mut sum = signed(b, apriori[k]);
-        for l in 1..=n {
-            sum += signed(t.output(s, b, l), channel[n * k + l - 1]);
+        for l in 1..=t.outputs {
+            sum += signed(t.output(s, b, l), channel[t.outputs * k + l - 1]);
         }
         sum
     };
-    let better = |held: &mut Option<i64>, m: i64| {
-        if held.map_or(true, |h| m > h) {
-            *held = Some(m);
-        }
-    };
-    // to[k][s]: the best way from state 0 to s in k sections. from[k][s]: the best way from s before section k to state 0 at the end.
-    let mut to = vec![vec![None; t.states]; sections + 1];
-    to[0][0] = Some(0);
-    for k in 0..sections {
-        for s in 0..t.states {
-            if let Some(m) = to[k][s] {
-                for b in 0..2 {
-                    better(&mut to[k + 1][t.next_state(s, b)], m + branch(k, s, b));
-                }
-            }
+    (0..2 * t.states).map(of_branch).collect()
+}
+
+fn better(held: &mut Option<i64>, m: i64) {
+    if held.map_or(true, |h| m > h) {
+        *held = Some(m);
+    }
+}
+
+// From a row after a section to the row before it, backwards.
+fn before(moves: &[Move], gains: &[i64], after: &Row) -> Row {
+    let mut row = vec![None; after.len()];
+    for m in moves {
+        if let Some(rest) = after[m.to] {
+            better(&mut row[m.from], rest + gains[m.branch]);
         }
     }
-    let mut from = vec![vec![None; t.states]; sections + 1];
-    from[sections][0] = Some(0);
-    for k in (0..sections).rev() {
-        for s in 0..t.states {
-            for b in 0..2 {
-                if let Some(m) = from[k + 1][t.next_state(s, b)] {
-                    better(&mut from[k][s], m + branch(k, s, b));
-                }
-            }
+    row
+}
+
+fn outcome(best: [Option<i64>; 2]) -> Option<Outcome> {
+    match best {
+        [Some(zero), Some(one)] => {
+            assert_eq!((one - zero) % 2, 0, "all metrics of a pass have the same parity");
+            Some(Outcome::Free((one - zero) / 2))
         }
+        [Some(_), None] => Some(Outcome::Forced(0)),
+        [None, Some(_)] => Some(Outcome::Forced(1)),
+        [None, None] => None,
     }
+}
+
+/// The outcomes of all positions, or none where there is no path. The table and the lengths are right.
+pub fn pass(t: &Table, end: End, sections: usize, channel: &[i16], apriori: &[i16]) -> Option<Vec<Outcome>> {
+    let moves = moves(t, end);
+    let gains: Vec<Vec<i64>> = (0..sections).map(|k| gains(t, k, channel, apriori)).collect();
+    // rest[i]: from each pair, the best way on to where a path of its start may end, i sections before the end.
+    let mut rest = vec![row_of(t, end, |start, s| end.leads(start, s))];
+    for g in gains.iter().rev() {
+        rest.push(before(&moves, g, rest.last().expect("a row for the end")));
+    }
+    // The best way to each pair, section by section, meets the best way on from it.
+    let mut way = row_of(t, end, |start, s| s == start);
     let mut outcomes = Vec::with_capacity(sections);
-    for k in 0..sections {
-        let mut best: [Option<i64>; 2] = [None, None];
-        for s in 0..t.states {
-            for b in 0..2 {
-                if let (Some(x), Some(y)) = (to[k][s], from[k + 1][t.next_state(s, b)]) {
-                    better(&mut best[b], x + branch(k, s, b) + y);
+    for (k, g) in gains.iter().enumerate() {
+        let on = &rest[sections - k - 1];
+        let mut after = vec![None; way.len()];
+        let mut best = [None, None];
+        for m in &moves {
+            if let Some(x) = way[m.from] {
+                better(&mut after[m.to], x + g[m.branch]);
+                if let Some(y) = on[m.to] {
+                    better(&mut best[m.branch % 2], x + g[m.branch] + y);
                 }
             }
         }
-        outcomes.push(match best {
-            [Some(zero), Some(one)] => {
-                assert_eq!((one - zero) % 2, 0, "all metrics of a pass have the same parity");
-                Outcome::Free((one - zero) / 2)
-            }
-            [Some(_), None] => Outcome::Forced(0),
-            [None, Some(_)] => Outcome::Forced(1),
-            [None, None] => return None,
-        });
+        way = after;
+        outcomes.push(outcome(best)?);
     }
     Some(outcomes)
 }
@@ -125,7 +167,7 @@ pub fn decode(call: &Call, lent: Lent) -> Result<Lists, Refused> {
     let loud = rules::outside(&call.channel, rules::CHANNEL_LIMIT);
     let spoiled = rules::outside(&call.apriori, rules::APRIORI_LIMIT);
     let applying = [
-        (2, rules::shape(t)),
+        (2, rules::shape(t) || rules::ends(&[call.end])),
         (3, rules::branch(t)),
         (4, rules::sections(call.sections)),
         (
@@ -149,6 +191,6 @@ pub fn decode(call: &Call, lent: Lent) -> Result<Lists, Refused> {
         Some(number) => return Err(number.into()),
         None => {}
     }
-    let outcomes = pass(t, call.sections, &call.channel, &call.apriori).ok_or(12u32)?;
+    let outcomes = pass(t, call.end, call.sections, &call.channel, &call.apriori).ok_or(12u32)?;
     Ok(lists(call, &outcomes))
 }

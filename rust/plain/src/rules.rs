@@ -1,6 +1,6 @@
 // The conditions of document 01's table and of document 02, one function each. They may be asked in any order and of any call.
 use crate::taps::{Code, Polynomial};
-use crate::{Frame, Table};
+use crate::{End, Frame, Table};
 
 pub const CHANNEL_LIMIT: i32 = 1023;
 pub const APRIORI_LIMIT: i32 = 8191;
@@ -22,6 +22,11 @@ fn differs(length: usize, asked: u128) -> bool {
 pub fn shape(t: &Table) -> bool {
     let s = t.states as u128;
     !(1..=16).contains(&s) || !(1..=4).contains(&t.outputs) || differs(t.next.len(), 2 * s) || differs(t.words.len(), 2 * s)
+}
+
+// 2, for ends
+pub fn ends(ends: &[End]) -> bool {
+    ends.iter().any(|end| !End::ALL.contains(end))
 }
 
 // 2, for the lists of a table from taps: measured only where the memory is in range

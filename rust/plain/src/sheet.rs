@@ -1,6 +1,6 @@
 //! The sheet: a frame as text, and the text that answers it.
 use crate::frame_decoder::{self, Lent, Lists};
-use crate::{house, rules, Frame};
+use crate::{house, rules, End, Frame};
 
 const HEADER: &str = "at to sys par par2 sys2";
 const MOST_BYTES: usize = 16_384;
@@ -134,7 +134,7 @@ pub fn decode(sheet: &[u8]) -> Result<Lists, Refused> {
     let loud = loud_lines(sheet);
     let bits = rows.messages.len();
     let pattern = rows.messages.iter().map(|r| r.to as u32).collect();
-    let frame = Frame { table: house::table(), bits, tail: TAIL, pattern, masks: vec![7] };
+    let frame = Frame { table: house::table(), ends: [End::Zero; 2], bits, tail: TAIL, pattern, masks: vec![7] };
     match rules::lowest(&[(6, !loud.is_empty()), (8, rules::pattern(&frame))]) {
         Some(6) => return Err(Refused { number: 6, line: loud[0] }),
         Some(number) => return Err(Refused { number, line: 0 }),

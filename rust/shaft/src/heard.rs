@@ -1,13 +1,14 @@
 //! How each row was heard: the values received beside what was sent, if the bits decided are right.
 use crate::sheet::Sheet;
 use crate::sound::Loudness;
-use turbo::{encode, Frame, Table};
+use turbo::{encode, End, Frame, Table};
 
 /// By row, the mean of sign sent (+1 for bit 1, -1 for 0) × value received over what was sent in the row, over the mean size of the sheet's
 /// values. 1 is as loud as the rest of the sheet, 0 silent, below 0 turned over. A row with nothing sent has none, and so has every row of a
 /// sheet of zeros.
 pub fn heard(sheet: &Sheet, bits: &[u8], loudness: Loudness) -> Vec<Option<f64>> {
-    let frame = Frame { table: Table::house(), tail: 2, pattern: sheet.pattern.clone(), masks: vec![7] };
+    let ends = (End::Zero, End::Zero);
+    let frame = Frame { table: Table::house(), ends, tail: 2, pattern: sheet.pattern.clone(), masks: vec![7] };
     let sent = encode(&frame, bits).expect("bits and pattern of a decoded sheet are coded");
     sheet.rows.iter().zip(sent.chunks(3)).map(|(row, sent)| of_row(row, sent, loudness)).collect()
 }

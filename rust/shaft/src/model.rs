@@ -1,6 +1,6 @@
 //! A seeded shaft: one drawn pattern, drawn messages, noise made of integers, and one weak row. The sheets of the tests and of docs/SHAFT.md.
 use crate::sheet::Sheet;
-use turbo::{encode, Frame, Table};
+use turbo::{encode, End, Frame, Table};
 
 /// The size of a value sent through a sound feeder, without noise.
 pub const LOUD: i64 = 80;
@@ -91,7 +91,8 @@ impl Shaft {
     pub fn receive(&mut self) -> (Vec<u8>, Sheet) {
         let bits = self.model.bits;
         let message = self.draw.bits(bits);
-        let frame = Frame { table: Table::house(), tail: 2, pattern: self.pattern.clone(), masks: vec![7] };
+        let ends = (End::Zero, End::Zero);
+        let frame = Frame { table: Table::house(), ends, tail: 2, pattern: self.pattern.clone(), masks: vec![7] };
         let sent = encode(&frame, &message).expect("a message and a pattern");
         let rows = (0..bits)
             .map(|at| {

@@ -47,7 +47,8 @@ fn sound_margins(text: &str, bits: &[u8]) -> Vec<i32> {
     let (rows, values) = fields(text);
     let size = (values.iter().map(|v| v.abs()).sum::<f64>() / values.len() as f64 + 0.5).floor().max(1.0) as i32;
     let pattern: Vec<u32> = rows.iter().map(|row| row[1].parse().unwrap()).collect();
-    let frame = turbo::Frame { table: turbo::Table::house(), tail: 2, pattern, masks: vec![7] };
+    let ends = (turbo::End::Zero, turbo::End::Zero);
+    let frame = turbo::Frame { table: turbo::Table::house(), ends, tail: 2, pattern, masks: vec![7] };
     let sent: Vec<i32> = turbo::encode(&frame, bits).unwrap().iter().map(|&bit| if bit == 1 { size } else { -size }).collect();
     let mut sheet = "at to sys par par2 sys2\n".to_string();
     for (at, row) in rows.iter().enumerate() {

@@ -4,12 +4,14 @@
 //! decoders, the sorting of the frame's values by pass are part of what is timed.
 //!
 //!     speed [ROUNDS [STATES]]
+//!     speed passes [ROUNDS]
 //!
 //! With a number of states (4, 8 or 16) only that table. With 0 rounds each decoder only decodes the 8 frames once, for a count of instructions:
-//! by_library, by_any_table and by_house_only are functions of their own.
+//! by_library, by_any_table and by_house_only are functions of their own. With `passes` the library alone, lone passes of 1024 sections by end.
 mod any_table;
 mod code;
 mod house_only;
+mod passes;
 
 use code::{Code, Received};
 use std::hint::black_box;
@@ -18,6 +20,8 @@ use turbo::raw;
 
 const K: usize = 512;
 const T: usize = 2;
+// The end of both coders.
+const ZERO: u32 = 0;
 const ITERATIONS: usize = 8;
 // Frames decoded by each decoder in a round.
 const FRAMES: usize = 8;
@@ -55,7 +59,7 @@ fn drawn_table(d: &mut Draw, states: usize) -> Code {
 fn frame(d: &mut Draw, code: &Code, pattern: &[u32]) -> Option<Vec<i16>> {
     let message: Vec<u8> = (0..K).map(|_| d.below(2) as u8).collect();
     let mut sent = vec![0u8; 3 * K + 4 * T];
-    let number = raw::encode(code.states, 2, &code.next, &code.words, K, T, &message, pattern, &[7], &mut sent);
+    let number = raw::encode(code.states, 2, &code.next, &code.words, ZERO, ZERO, K, T, &message, pattern, &[7], &mut sent);
     (number == 0).then(|| sent.iter().map(|&b| (40 * (2 * b as i32 - 1) + d.below(121) as i32 - 60) as i16).collect())
 }
 
@@ -77,7 +81,8 @@ impl Said {
 fn by_library(code: &Code, pattern: &[u32], frame: &[i16], said: &mut Said, work: &mut [i32]) -> u32 {
     let Said { bits, margins, extrinsics } = said;
     let mut index = 0;
-    raw::decode(code.states, 2, &code.next, &code.words, K, T, pattern, &[7], frame, ITERATIONS, bits, margins, extrinsics, work, &mut index)
+    let Code { states, next, words } = code;
+    raw::decode(*states, 2, next, words, ZERO, ZERO, K, T, pattern, &[7], frame, ITERATIONS, bits, margins, extrinsics, work, &mut index)
 }
 
 #[inline(never)]
@@ -174,9 +179,14 @@ fn measure(name: &str, code: &Code, is_house: bool, d: &mut Draw, rounds: usize)
 }
 
 fn main() {
-    let mut words = std::env::args().skip(1).map(|w| w.parse::<usize>().expect("a number of rounds, and of states"));
-    let rounds = words.next().unwrap_or(100);
-    let only = words.next();
+    let mut words = std::env::args().skip(1).peekable();
+    let by_end = words.next_if_eq("passes").is_some();
+    let mut numbers = words.map(|w| w.parse::<usize>().expect("a number of rounds, and of states"));
+    let rounds = numbers.next().unwrap_or(100);
+    if by_end {
+        return passes::measure_all(rounds.max(1));
+    }
+    let only = numbers.next();
     println!("{K} bits, {T} tail sections, {ITERATIONS} iterations; {rounds} rounds of {FRAMES} frames");
     let mut d = Draw(1);
     if only.map_or(true, |states| states == 4) {

@@ -1,11 +1,12 @@
 //! Codes a message with the house code, disturbs the frame and decodes it; then shows how refusals read.
 //!
 //!     rt staticlib capi && cd rust && cargo run --release --example decode
-use turbo::{decode, encode, Frame, Refusal, Table};
+use turbo::{decode, encode, End, Frame, Refusal, Table};
 
 fn main() -> Result<(), Refusal> {
     let message = [1, 0, 1, 1, 0, 0, 1, 0];
-    let frame = Frame { table: Table::house(), tail: 2, pattern: vec![3, 0, 6, 1, 4, 7, 2, 5], masks: vec![6, 5] };
+    let ends = (End::Zero, End::Zero);
+    let frame = Frame { table: Table::house(), ends, tail: 2, pattern: vec![3, 0, 6, 1, 4, 7, 2, 5], masks: vec![6, 5] };
     let sent = encode(&frame, &message)?;
     let mut received: Vec<i16> = sent.iter().map(|&bit| if bit == 1 { 40 } else { -40 }).collect();
     received[2] = -received[2];

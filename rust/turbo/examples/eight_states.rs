@@ -2,11 +2,12 @@
 //! bit, and decodes the frame; then shows how taps that name no code are refused.
 //!
 //!     rt staticlib capi && cd rust && cargo run --release --example eight_states
-use turbo::{decode, encode, polynomial_pattern, Frame, Refusal, Table};
+use turbo::{decode, encode, polynomial_pattern, End, Frame, Refusal, Table};
 
 fn main() -> Result<(), Refusal> {
     // Feedback 1 + D² + D³ is 13 and parity 1 + D + D³ is 11; three tail sections empty the three register bits.
-    let frame = Frame { table: Table::from_taps(3, 13, 11)?, tail: 3, pattern: polynomial_pattern(40, 3, 10)?, masks: vec![7] };
+    let ends = (End::Zero, End::Zero);
+    let frame = Frame { table: Table::from_taps(3, 13, 11)?, ends, tail: 3, pattern: polynomial_pattern(40, 3, 10)?, masks: vec![7] };
     let message: Vec<u8> = b"LIFT5".iter().flat_map(|letter| (0..8).rev().map(move |i| letter >> i & 1)).collect();
     let sent = encode(&frame, &message)?;
     let mut received: Vec<i16> = sent.iter().map(|&bit| if bit == 1 { 40 } else { -40 }).collect();

@@ -1,16 +1,18 @@
 //! The proved turbo frame receiver, safely.
 //!
 //! [`Table`] and [`Frame`] hold what coder and decoder agree on; a table may be built from a code's taps ([`Table::from_taps`]) and a pattern from a
-//! polynomial ([`polynomial_pattern`]). [`encode`], [`decode`] and [`lone_decode`] make every list that the library writes, of the right length;
-//! what is left to refuse is told as a [`Refusal`]. [`sheet()`] answers a sheet's text with text, and [`hint()`] says what is easy to see of a text
-//! that is refused by 1. The library itself makes every check, so none is made twice and in another way here. [`raw`] has the same calls on the
-//! caller's own lists.
+//! polynomial ([`polynomial_pattern`]), and each coder has an [`End`]. [`encode`], [`decode`] and [`lone_decode`] make every list that the library
+//! writes, of the right length; what is left to refuse is told as a [`Refusal`]. [`sheet()`] answers a sheet's text with text, and [`hint()`] says
+//! what is easy to see of a text that is refused by 1. The library itself makes every check, so none is made twice and in another way here. [`raw`]
+//! has the same calls on the caller's own lists.
 
+mod end;
 mod ffi;
 mod hint;
 pub mod raw;
 mod refusal;
 
+pub use end::End;
 pub use hint::{hint, Hint};
 pub use refusal::Refusal;
 
@@ -65,7 +67,9 @@ impl Table {
 #[derive(Clone, Debug, PartialEq, Eq)]
 pub struct Frame {
     pub table: Table,
-    /// The tail sections of each coder, 0..4.
+    /// The ends of the first coder and of the second.
+    pub ends: (End, End),
+    /// The tail sections of each coder that ends at zero, 0..4. The limits hold whatever the ends.
     pub tail: usize,
     /// The second coder's input i is message bit `pattern[i]`.
     pub pattern: Vec<u32>,
@@ -84,14 +88,22 @@ impl Frame {
         self.pattern.len()
     }
 
-    /// The length of the frame's list: the ones in the masks of the K positions, and four values a tail section.
+    /// The length of the frame's list: the ones in the masks of the K positions, and two values a tail section of each coder that ends at zero.
     pub fn frame_len(&self) -> usize {
         let sent: usize = (0..self.bits()).filter_map(|k| self.masks.get(k % self.masks.len().max(1))).map(|m| m.count_ones() as usize).sum();
-        sent.saturating_add(self.tail.saturating_mul(4))
+        let (tail1, tail2) = self.tails();
+        sent.saturating_add(tail1.saturating_mul(2)).saturating_add(tail2.saturating_mul(2))
     }
 
+    fn tails(&self) -> (usize, usize) {
+        let tail = |end: End| if end == End::Zero { self.tail } else { 0 };
+        (tail(self.ends.0), tail(self.ends.1))
+    }
+
+    // Of the longer coder.
     fn sections(&self) -> usize {
-        self.bits().saturating_add(self.tail)
+        let (tail1, tail2) = self.tails();
+        self.bits().saturating_add(tail1.max(tail2))
     }
 }
 
@@ -145,6 +157,8 @@ pub fn encode(frame: &Frame, message: &[u8]) -> Result<Vec<u8>, Refusal> {
         t.outputs,
         &t.next,
         &t.words,
+        frame.ends.0.number(),
+        frame.ends.1.number(),
         frame.bits(),
         frame.tail,
         message,
@@ -169,6 +183,8 @@ pub fn decode(frame: &Frame, received: &[i16], iterations: usize) -> Result<Deco
         t.outputs,
         &t.next,
         &t.words,
+        frame.ends.0.number(),
+        frame.ends.1.number(),
         k,
         frame.tail,
         &frame.pattern,
@@ -185,9 +201,9 @@ pub fn decode(frame: &Frame, received: &[i16], iterations: usize) -> Result<Deco
     Ok(out)
 }
 
-/// One pass over a table. There are as many sections as a-priori values, and `outputs` channel values a section. The index that
-/// [`Refusal::Value`] tells is one of `channel`, and that of [`Refusal::Apriori`] one of `apriori`.
-pub fn lone_decode(table: &Table, channel: &[i16], apriori: &[i16]) -> Result<Vec<Position>, Refusal> {
+/// One pass over a table, by the paths of an end. There are as many sections as a-priori values, and `outputs` channel values a section. The index
+/// that [`Refusal::Value`] tells is one of `channel`, and that of [`Refusal::Apriori`] one of `apriori`.
+pub fn lone_decode(table: &Table, end: End, channel: &[i16], apriori: &[i16]) -> Result<Vec<Position>, Refusal> {
     let n = apriori.len();
     let mut marks = vec![0; n];
     let mut margins = vec![0; n];
@@ -199,6 +215,7 @@ pub fn lone_decode(table: &Table, channel: &[i16], apriori: &[i16]) -> Result<Ve
         table.outputs,
         &table.next,
         &table.words,
+        end.number(),
         n,
         channel,
         apriori,

@@ -2,6 +2,8 @@
 //! instead. include/turbo.h says what each list is. They are safe for any arguments: slices have their lengths, and those that are written
 //! overlap nothing.
 //!
+//! An end is told by its number, [`End::number`](crate::End::number); any other number is refused by 2.
+//!
 //! Both decoders always write `index`: with 6 and 16 it is that of the first value out of range in its list, counted from 0, and else 0.
 //! [`Refusal::from_reply`](crate::Refusal::from_reply) makes an error of the number and the index.
 #![allow(clippy::too_many_arguments)]
@@ -13,6 +15,7 @@ pub fn lone_decode(
     outputs: usize,
     next: &[u8],
     words: &[u8],
+    end: u32,
     sections: usize,
     channel: &[i16],
     apriori: &[i16],
@@ -31,6 +34,7 @@ pub fn lone_decode(
             next.len(),
             words.as_ptr(),
             words.len(),
+            end,
             sections,
             channel.as_ptr(),
             channel.len(),
@@ -54,6 +58,8 @@ pub fn encode(
     outputs: usize,
     next: &[u8],
     words: &[u8],
+    end1: u32,
+    end2: u32,
     bits: usize,
     tail: usize,
     message: &[u8],
@@ -70,6 +76,8 @@ pub fn encode(
             next.len(),
             words.as_ptr(),
             words.len(),
+            end1,
+            end2,
             bits,
             tail,
             message.as_ptr(),
@@ -89,6 +97,8 @@ pub fn decode(
     outputs: usize,
     next: &[u8],
     words: &[u8],
+    end1: u32,
+    end2: u32,
     bits: usize,
     tail: usize,
     pattern: &[u32],
@@ -110,6 +120,8 @@ pub fn decode(
             next.len(),
             words.as_ptr(),
             words.len(),
+            end1,
+            end2,
             bits,
             tail,
             pattern.as_ptr(),

@@ -80,7 +80,7 @@ impl Refusal {
     pub fn sentence(self) -> String {
         let sentence = match self {
             Refusal::Text => "the sheet's text breaks a rule",
-            Refusal::Shape => "the table must have 1 to 16 states, 1 to 4 outputs and two branches a state",
+            Refusal::Shape => "the table must have 1 to 16 states, 1 to 4 outputs and two branches a state; an end must be 0, 1 or 2",
             Refusal::Polynomial => "memory must be 1 to 4, both tap numbers below 2^(memory+1), the feedback number odd; f1 and f2 below K",
             Refusal::Branch => "a next state is not below the number of states, or a word not below 2^outputs",
             Refusal::Length => "sections must be 1 to 4096; message bits at least 1, tail sections 0 to 4, and both together at most 4096",
@@ -92,9 +92,9 @@ impl Refusal {
             Refusal::Mask => "there must be 1 to 16 masks, each at most 7",
             Refusal::Iterations => "iterations must be 1 to 32",
             Refusal::Coder => "a frame's table must be systematic with two outputs",
-            Refusal::NoPath => "no path of that length leads from state 0 to state 0",
+            Refusal::NoPath => "no path of that length ends as it must: at zero in state 0, as a ring in the state in which it started",
             Refusal::ForcedPosition => "every path has the same bit at some message position, so it has no margin",
-            Refusal::NoTail => "no inputs of the tail lead a coder back to state 0",
+            Refusal::NoTail => "no inputs of the tail lead a coder back to state 0, or no state is one that a ring's inputs return to itself",
         };
         sentence.to_string()
     }

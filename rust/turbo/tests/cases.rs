@@ -1,8 +1,8 @@
 //! Bench cases of document 01, through the binding.
-use turbo::{decode, encode, lone_decode, raw, sheet, Frame, Position, Refusal, Table};
+use turbo::{decode, encode, lone_decode, raw, sheet, End, Frame, Position, Refusal, Table};
 
 fn house_frame(bits: u32, tail: usize, masks: &[u8]) -> Frame {
-    Frame { table: Table::house(), tail, pattern: (0..bits).collect(), masks: masks.to_vec() }
+    Frame { table: Table::house(), ends: (End::Zero, End::Zero), tail, pattern: (0..bits).collect(), masks: masks.to_vec() }
 }
 
 // The next state is the input, and so is the one output.
@@ -13,7 +13,7 @@ fn two_states() -> Table {
 #[test]
 fn p1_margins_and_extrinsics() {
     let channel = [4, -1, -2, 2, 1, -5, 3, 6];
-    let said = lone_decode(&Table::house(), &channel, &[0; 4]).unwrap();
+    let said = lone_decode(&Table::house(), End::Zero, &channel, &[0; 4]).unwrap();
     let asked = [(-1, -5), (1, 3), (1, 0), (10, 7)].map(|(margin, extrinsic)| Position::Free { margin, extrinsic });
     assert_eq!(said, asked);
 }
@@ -50,10 +50,10 @@ fn a_list_without_room_for_the_answer() {
 
 #[test]
 fn p3_p4_p5_forced_and_no_path() {
-    assert_eq!(lone_decode(&two_states(), &[3, -7], &[1, 0]), Ok(vec![Position::Free { margin: 4, extrinsic: 0 }, Position::Forced(0)]));
-    assert_eq!(lone_decode(&two_states(), &[3], &[0]), Ok(vec![Position::Forced(0)]));
+    assert_eq!(lone_decode(&two_states(), End::Zero, &[3, -7], &[1, 0]), Ok(vec![Position::Free { margin: 4, extrinsic: 0 }, Position::Forced(0)]));
+    assert_eq!(lone_decode(&two_states(), End::Zero, &[3], &[0]), Ok(vec![Position::Forced(0)]));
     let to_one = Table::new(1, &[[(1, 0), (1, 1)], [(1, 0), (1, 1)]]);
-    assert_eq!(lone_decode(&to_one, &[3, -7], &[1, 0]), Err(Refusal::NoPath));
+    assert_eq!(lone_decode(&to_one, End::Zero, &[3, -7], &[1, 0]), Err(Refusal::NoPath));
 }
 
 #[test]
@@ -74,10 +74,10 @@ fn p9_lengths() {
 
 #[test]
 fn limits() {
-    let one = |v: i16| lone_decode(&Table::new(1, &[[(0, 0), (0, 1)]]), &[v], &[0]).map(|_| ());
+    let one = |v: i16| lone_decode(&Table::new(1, &[[(0, 0), (0, 1)]]), End::Zero, &[v], &[0]).map(|_| ());
     assert_eq!(one(1023), Ok(()));
     assert_eq!(one(1024), Err(Refusal::Value { index: 0 }));
-    let long = |n: usize| lone_decode(&two_states(), &vec![0; n], &vec![0; n]).map(|_| ());
+    let long = |n: usize| lone_decode(&two_states(), End::Zero, &vec![0; n], &vec![0; n]).map(|_| ());
     assert_eq!(long(4096), Ok(()));
     assert_eq!(long(4097), Err(Refusal::Length));
     assert_eq!(long(0), Err(Refusal::Length));
@@ -93,8 +93,8 @@ fn sizes_out_of_limits_are_refused_and_not_made() {
     assert_eq!(encode(&house_frame(3, usize::MAX, &[7]), &[0; 3]), Err(Refusal::Length));
     assert_eq!(decode(&house_frame(4093, 4, &[7]), &[], 1), Err(Refusal::Length));
     assert_eq!(encode(&house_frame(1, 2, &[]), &[1]), Err(Refusal::Mask));
-    assert_eq!(lone_decode(&Table::new(1, &[]), &[], &[]), Err(Refusal::Shape));
-    assert_eq!(lone_decode(&Table::new(1, &[[(0, 0), (0, 1)]; 17]), &[0], &[0]), Err(Refusal::Shape));
+    assert_eq!(lone_decode(&Table::new(1, &[]), End::Zero, &[], &[]), Err(Refusal::Shape));
+    assert_eq!(lone_decode(&Table::new(1, &[[(0, 0), (0, 1)]; 17]), End::Zero, &[0], &[0]), Err(Refusal::Shape));
 }
 
 #[test]

@@ -1,5 +1,5 @@
 //! Codes named by their taps and patterns given by polynomials, as document 02 asks, through the binding.
-use turbo::{decode, encode, polynomial_pattern, raw, Frame, Refusal, Table};
+use turbo::{decode, encode, polynomial_pattern, raw, End, Frame, Refusal, Table};
 
 // Feedback 1 + D² + D³, parity 1 + D + D³, written out: the state is the last three register bits, the youngest lowest.
 fn eight_states() -> Table {
@@ -142,7 +142,8 @@ fn pattern_refusals_in_their_order() {
 fn as_many_tail_sections_as_register_bits() {
     for (memory, feedback, parity) in [(1, 3, 2), (2, 7, 5), (3, 13, 11), (4, 19, 29), (4, 1, 0)] {
         let table = Table::from_taps(memory, feedback, parity).unwrap();
-        let frame = Frame { table, tail: memory, pattern: polynomial_pattern(40, 3, 10).unwrap(), masks: vec![7] };
+        let ends = (End::Zero, End::Zero);
+        let frame = Frame { table, ends, tail: memory, pattern: polynomial_pattern(40, 3, 10).unwrap(), masks: vec![7] };
         let message: Vec<u8> = (0..40).map(|i| (i * i / 7 % 2) as u8).collect();
         let received: Vec<i16> = encode(&frame, &message).unwrap().iter().map(|&bit| if bit == 1 { 9 } else { -9 }).collect();
         assert_eq!(decode(&frame, &received, 2).unwrap().bits, message);

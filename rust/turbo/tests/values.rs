@@ -1,5 +1,5 @@
 //! Which value is out of range, as document 02 asks, through the binding.
-use turbo::{decode, lone_decode, raw, sheet, Frame, Refusal, Table};
+use turbo::{decode, lone_decode, raw, sheet, End, Frame, Refusal, Table};
 
 // One state and two outputs, systematic: every path is one.
 fn one_state() -> Table {
@@ -7,7 +7,7 @@ fn one_state() -> Table {
 }
 
 fn lone(channel: &[i16], apriori: &[i16]) -> Result<(), Refusal> {
-    lone_decode(&one_state(), channel, apriori).map(|_| ())
+    lone_decode(&one_state(), End::Zero, channel, apriori).map(|_| ())
 }
 
 #[test]
@@ -37,15 +37,16 @@ fn the_numbers_beside_them() {
     // 5 comes before both, and 12 after both
     assert_eq!(lone(&[1024, 0, 0], &[8192, 0]), Err(Refusal::Lists));
     let to_one = Table::new(1, &[[(1, 0), (1, 1)], [(1, 0), (1, 1)]]);
-    assert_eq!(lone_decode(&to_one, &[0, 0], &[0, 0]), Err(Refusal::NoPath));
-    assert_eq!(lone_decode(&to_one, &[0, 0], &[0, 8192]), Err(Refusal::Apriori { index: 1 }));
-    assert_eq!(lone_decode(&to_one, &[0, 1024], &[8192, 0]), Err(Refusal::Value { index: 1 }));
+    assert_eq!(lone_decode(&to_one, End::Zero, &[0, 0], &[0, 0]), Err(Refusal::NoPath));
+    assert_eq!(lone_decode(&to_one, End::Zero, &[0, 0], &[0, 8192]), Err(Refusal::Apriori { index: 1 }));
+    assert_eq!(lone_decode(&to_one, End::Zero, &[0, 1024], &[8192, 0]), Err(Refusal::Value { index: 1 }));
 }
 
 #[test]
 fn the_index_is_one_of_the_list_received() {
     // Of each position two values are sent, so tail 1 starts at 4 and tail 2 at 8.
-    let frame = Frame { table: Table::house(), tail: 2, pattern: vec![1, 0], masks: vec![6, 5] };
+    let ends = (End::Zero, End::Zero);
+    let frame = Frame { table: Table::house(), ends, tail: 2, pattern: vec![1, 0], masks: vec![6, 5] };
     assert_eq!(frame.frame_len(), 12);
     for at in 0..12 {
         let mut received = [0; 12];
@@ -68,7 +69,7 @@ fn lone_reply(sections: usize, channel: &[i16], apriori: &[i16]) -> (u32, u64) {
     let (mut marks, mut margins, mut extrinsics, mut work) = (vec![0; n], vec![0; n], vec![0; n], vec![0; n + 1]);
     let mut index = u64::MAX;
     let number =
-        raw::lone_decode(1, 2, &[0, 0], &[0, 3], sections, channel, apriori, &mut marks, &mut margins, &mut extrinsics, &mut work, &mut index);
+        raw::lone_decode(1, 2, &[0, 0], &[0, 3], 0, sections, channel, apriori, &mut marks, &mut margins, &mut extrinsics, &mut work, &mut index);
     (number, index)
 }
 

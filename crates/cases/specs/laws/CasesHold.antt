@@ -2,8 +2,8 @@
 -- Assumes nothing.
 use mathlib.Core.Path.{_≡_, refl}
 use mathlib.Core.List.{map}
-use Rattle.cases.specs.Cases.{computed, untouched, zeros, follower, trap, plainFrame, lentTo, cases}
+use Rattle.cases.specs.Cases.{computed, untouched, zeros, follower, trap, endedFrame, plainFrame, lentTo, cases}
 
 pub cases-hold : map computed cases ≡ cases
-unfolding computed cases untouched zeros follower trap plainFrame lentTo
+unfolding computed cases untouched zeros follower trap endedFrame plainFrame lentTo
 cases-hold = refl

@@ -1,19 +1,21 @@
 -- What is known of a call of the frame decoder that its checks accept, and of one that has a path and no forced message position.
 -- Assumes nothing.
-use mathlib.Core.Path.{_≡_, sym, ap}
-use mathlib.Core.Bool.{true, false, not}
+use mathlib.Core.Path.{_≡_, refl, sym}
+use mathlib.Core.Bool.{Bool, true, false, not, _||_, false≢true}
 use Prim.Native.Nat.{ℕ, _+_, _*_, _≤_, _<_}
+use native.Mathlib.Nat.{add-zero}
 use lib.ListN.{length}
-use borrow.Author.Tests.{eqb-true, leb-true, not-true}
+use borrow.Author.Tests.{eqb-true, leb-true}
 use Rattle.lists.specs.laws.Every.{none-upto-at}
 use Rattle.lists.specs.laws.Tests.{and-both}
 use Rattle.refusal.specs.declared.Refusal.the-variants.{Shape, Branch, Length, Lists, Value, Pattern, Mask, Iterations, Coder, NoPath, ForcedPosition}
 use Rattle.refusal.specs.declared.Reply.the-variants.{Done}
 use Rattle.refusal.specs.laws.Checks.{check-is-done, then-is-done, first-passed, passes-first}
+use Rattle.trellis.specs.declared.End.the-variants.{Zero, Open}
 use Rattle.trellis.specs.Limits.{channelFits}
 use Rattle.trellis.specs.Outcome.{pathless, forced}
-use Rattle.trellis.specs.laws.Returning.{LeadsBack, back-has-path, back-none-forced}
-use Rattle.frame.specs.Frame.{Frame, sections, frameLength}
+use Rattle.trellis.specs.laws.Returning.{LeadsBack, back-has-path, back-none-forced, open-has-path, open-none-forced}
+use Rattle.frame.specs.Frame.{Frame, tailOf, tail1, tail2, sections1, sections2, longer, frameLength}
 use Rattle.frame.specs.laws.Checked.{Framed}
 use Rattle.decoder.specs.Decoder.{DecodeCall, DecodeLent, decodeListsFit, decodeChecked, decodeWalked, decodeReply}
 
@@ -23,15 +25,17 @@ pub record Decodable (c : DecodeCall) (l : DecodeLent) : Type 0 where
   pub bits-long : length (l .bits) ≡ c .frame .bits
   pub margins-long : length (l .margins) ≡ c .frame .bits
   pub extrinsics-long : length (l .extrinsics) ≡ c .frame .bits
-  pub work-long : length (l .work) ≡ (sections (c .frame) + 1) * c .frame .table .states
+  pub work-long : length (l .work) ≡ (longer (c .frame) + 1) * c .frame .table .states
   pub values : channelFits (c .received) ≡ true
   pub some-iteration : 1 ≤ c .iterations
   pub few-iterations : c .iterations ≤ 32
 
 -- neither 12 nor 13
 pub record Walkable (f : Frame) : Type 0 where
-  pub some-path : pathless (f .table) (sections f) ≡ false
-  pub free : (k : ℕ) → k < f .bits → forced (f .table) (sections f) k ≡ false
+  pub some-path1 : pathless (f .table) (f .first) (sections1 f) ≡ false
+  pub some-path2 : pathless (f .table) (f .second) (sections2 f) ≡ false
+  pub free1 : (k : ℕ) → k < f .bits → forced (f .table) (f .first) (sections1 f) k ≡ false
+  pub free2 : (k : ℕ) → k < f .bits → forced (f .table) (f .second) (sections2 f) k ≡ false
 
 pub decodable : (c : DecodeCall) (l : DecodeLent) → decodeChecked c l ≡ Done → Decodable c l
 unfolding decodeChecked decodeListsFit
@@ -70,23 +74,42 @@ decodable c l e =
       few-iterations = leb-true _ _ few-iterations;
     }
 
+-- neither of two
+neither : (b d : Bool) → not (b || d) ≡ true → (b ≡ false) × (d ≡ false)
+neither true d e = absurd (false≢true e)
+neither false true e = absurd (false≢true e)
+neither false false e = (refl, refl)
+
 pub walkable : (c : DecodeCall) → decodeWalked c ≡ Done → Walkable (c .frame)
 unfolding decodeWalked
 walkable c e =
     let (some-path, after-paths) = first-passed _ NoPath _ e in
+    let (path1, path2) = neither _ _ some-path in
+    let (free1, free2) = neither _ _ (check-is-done _ ForcedPosition .0 after-paths) in
     record {
-      some-path = not-true _ some-path;
-      free = none-upto-at _ (c .frame .bits) (not-true _ (check-is-done _ ForcedPosition .0 after-paths));
+      some-path1 = path1;
+      some-path2 = path2;
+      free1 = none-upto-at _ (c .frame .bits) free1;
+      free2 = none-upto-at _ (c .frame .bits) free2;
     }
 
--- a frame over a table that leads back in its tail sections has a path, and none of its message positions is forced
-pub walked-back : (c : DecodeCall) → LeadsBack (c .frame .table) (c .frame .tail) → decodeWalked c ≡ Done
-unfolding decodeWalked sections
-walked-back c w =
+-- a frame with two zero ends over a table that leads back in its tail sections has a path, and none of its message positions is forced
+pub walked-back : (c : DecodeCall) → c .frame .first ≡ Zero → c .frame .second ≡ Zero → LeadsBack (c .frame .table) (c .frame .tail) → decodeWalked c ≡ Done
+unfolding decodeWalked sections1 sections2 tail1 tail2 tailOf
+walked-back c e1 e2 w =
     let f = c .frame in
-    sym
-    (passes-first NoPath (ap not (back-has-path (f .table) (f .tail) w (f .bits)))
-    (sym (check-is-done _ ForcedPosition .1 (ap not (back-none-forced (f .table) (f .tail) w (f .bits))))))
+    let path = back-has-path (f .table) (f .tail) w (f .bits) in
+    let free = back-none-forced (f .table) (f .tail) w (f .bits) in
+    rw (e1, e2) (sym (passes-first NoPath (rw path) (sym (check-is-done _ ForcedPosition .1 (rw free)))))
+
+-- so it is with two open ends, over any table
+pub walked-open : (c : DecodeCall) → c .frame .first ≡ Open → c .frame .second ≡ Open → 0 < c .frame .table .states → decodeWalked c ≡ Done
+unfolding decodeWalked sections1 sections2 tail1 tail2 tailOf
+walked-open c e1 e2 some-state =
+    let f = c .frame in
+    let path = open-has-path (f .table) some-state (f .bits) in
+    let free = open-none-forced (f .table) some-state (f .bits) in
+    rw (e1, e2, add-zero (f .bits)) (sym (passes-first NoPath (rw path) (sym (check-is-done _ ForcedPosition .1 (rw free)))))
 
 -- a call that is done is both
 pub done-is : (c : DecodeCall) (l : DecodeLent) → decodeReply c l ≡ Done → Decodable c l × Walkable (c .frame)

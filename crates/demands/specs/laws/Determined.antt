@@ -13,15 +13,15 @@ use Rattle.refusal.specs.declared.Refusal.{Refusal}
 use Rattle.refusal.specs.declared.Reply.{Reply}
 use Rattle.refusal.specs.declared.Reply.the-variants.{Done, Refused}
 use Rattle.refusal.specs.laws.Checks.{refused-is-not-done}
+use Rattle.trellis.specs.declared.End.{End}
 use Rattle.trellis.specs.Path.{aprioriAt}
 use Rattle.frame.specs.Interleaver.{place}
 use Rattle.frame.specs.laws.Interleaving.{Permutes}
-use Rattle.frame.specs.Frame.{Frame, sections}
+use Rattle.frame.specs.Frame.{Frame, sectionsOf}
 use Rattle.decoder.specs.Decoder.{handOver, decided, channel1, channel2, DecodeCall, DecodeLent, DecodeResult, decodeChecked, decode}
 use Rattle.decoder.specs.laws.Decodable.{Decodable, decodable}
 use Rattle.frame.specs.laws.Checked.{checked}
-use Rattle.demands.specs.Decoding.{Pass, marginAt, extrinsicAt, IsPass, patternAt, AreIterations, AreWritten, AreKept, SomeEmpty, IsDecoding}
-use Rattle.demands.specs.Meaning.{SomePath}
+use Rattle.demands.specs.Decoding.{Pass, marginAt, extrinsicAt, IsPass, patternAt, AreIterations, AreWritten, AreKept, BothPaths, EitherEmpty, IsDecoding}
 use Rattle.demands.specs.laws.Outcomes.{means-one}
 use Rattle.demands.specs.laws.Replies.{frame-ways}
 use Rattle.demands.specs.laws.EveryDecoding.{every-decoding-means}
@@ -29,16 +29,16 @@ use Rattle.demands.specs.laws.EveryDecoding.{every-decoding-means}
 -- ---- one pass
 
 -- two passes read the same values and say the same of every position
-record Same (f : Frame) (p q : Pass) : Type 0 where
+record Same (f : Frame) (end : End) (p q : Pass) : Type 0 where
   values : p .values ≡ q .values
-  said : (k : ℕ) → k < sections f → p .said k ≡ q .said k
+  said : (k : ℕ) → k < sectionsOf f end → p .said k ≡ q .said k
 
-module _ (f : Frame) (channel : List ℤ) (p q : Pass) (is-p : IsPass f channel p) (is-q : IsPass f channel q) where
+module _ (f : Frame) (end : End) (channel : List ℤ) (p q : Pass) (is-p : IsPass f end channel p) (is-q : IsPass f end channel q) where
   -- the a-priori values at message positions settle the rest
-  same-pass : ((k : ℕ) → k < f .bits → aprioriAt (p .values) k ≡ aprioriAt (q .values) k) → Same f p q
+  same-pass : ((k : ℕ) → k < f .bits → aprioriAt (p .values) k ≡ aprioriAt (q .values) k) → Same f end p q
   same-pass h = record { values = values; said = said }
     where
-      at : (k : ℕ) → k < sections f → getD (p .values .apriori) k (pos 0) ≡ getD (q .values .apriori) k (pos 0)
+      at : (k : ℕ) → k < sectionsOf f end → getD (p .values .apriori) k (pos 0) ≡ getD (q .values .apriori) k (pos 0)
       at k l = unfold aprioriAt in elim (decLt k (f .bits)) [
         | yes m ↦ h k m
         | no m ↦ is-p .tail k (omega arith) l ∙ sym (is-q .tail k (omega arith) l)
@@ -53,12 +53,11 @@ module _ (f : Frame) (channel : List ℤ) (p q : Pass) (is-p : IsPass f channel 
       values : p .values ≡ q .values
       values = λ i. record { channel = channels i; apriori = apriori i }
 
-      said : (k : ℕ) → k < sections f → p .said k ≡ q .said k
-      said k l = means-one (f .table) (q .values) (sections f) k _ _ (rw values at (is-p .means k l)) (is-q .means k l)
+      said : (k : ℕ) → k < sectionsOf f end → p .said k ≡ q .said k
+      said k l = means-one (f .table) (q .values) end (sectionsOf f end) k _ _ (rw values at (is-p .means k l)) (is-q .means k l)
 
-module _ (f : Frame) (p q : Pass) (same : Same f p q) (k : ℕ) (h : k < f .bits) where
-  in-sections : k < sections f
-  unfolding sections
+module _ (f : Frame) (end : End) (p q : Pass) (same : Same f end p q) (k : ℕ) (h : k < f .bits) where
+  in-sections : k < sectionsOf f end
   in-sections = omega arith
 
   same-margin : marginAt p k ≡ marginAt q k
@@ -82,21 +81,21 @@ module _ (f : Frame) (w : Permutes (f .bits) (f .pattern)) where
   by-pattern P h x l = rw (w .at-place x l) at (h (place x (f .pattern)) (w .place-below x l))
 
   module _ (r : List ℤ) (n : ℕ) (a b c d : ℕ → Pass) (one : AreIterations f r n a b) (other : AreIterations f r n c d) where
-    same-second : (i : ℕ) → i < n → Same f (a i) (c i) → Same f (b i) (d i)
+    same-second : (i : ℕ) → i < n → Same f (f .first) (a i) (c i) → Same f (f .second) (b i) (d i)
     same-second i h same =
-        same-pass f (channel2 f r) (b i) (d i) (one .pass-2 i h) (other .pass-2 i h)
-        (λ k l. one .hands-on i h k l ∙ ap handOver (same-extrinsic f (a i) (c i) same (patternAt f k) (in-pattern k l)) ∙ sym (other .hands-on i h k l))
+        same-pass f (f .second) (channel2 f r) (b i) (d i) (one .pass-2 i h) (other .pass-2 i h)
+        (λ k l. one .hands-on i h k l ∙ ap handOver (same-extrinsic f (f .first) (a i) (c i) same (patternAt f k) (in-pattern k l)) ∙ sym (other .hands-on i h k l))
 
-    same-first : (i : ℕ) → i < n → Same f (a i) (c i)
+    same-first : (i : ℕ) → i < n → Same f (f .first) (a i) (c i)
     same-first zero h =
-        same-pass f (channel1 f r) (a 0) (c 0) (one .pass-1 0 h) (other .pass-1 0 h) (λ k l. one .starts k l ∙ sym (other .starts k l))
+        same-pass f (f .first) (channel1 f r) (a 0) (c 0) (one .pass-1 0 h) (other .pass-1 0 h) (λ k l. one .starts k l ∙ sym (other .starts k l))
     same-first (suc i) h =
         let same = same-second i (omega arith) (same-first i (omega arith)) in
-        same-pass f (channel1 f r) (a (suc i)) (c (suc i)) (one .pass-1 (suc i) h) (other .pass-1 (suc i) h)
+        same-pass f (f .first) (channel1 f r) (a (suc i)) (c (suc i)) (one .pass-1 (suc i) h) (other .pass-1 (suc i) h)
         (by-pattern (λ x. aprioriAt (a (suc i) .values) x ≡ aprioriAt (c (suc i) .values) x)
-        (λ k l. one .hands-back i h k l ∙ ap handOver (same-extrinsic f (b i) (d i) same k l) ∙ sym (other .hands-back i h k l)))
+        (λ k l. one .hands-back i h k l ∙ ap handOver (same-extrinsic f (f .second) (b i) (d i) same k l) ∙ sym (other .hands-back i h k l)))
 
-    same-passes : (i : ℕ) → i < n → Same f (b i) (d i)
+    same-passes : (i : ℕ) → i < n → Same f (f .second) (b i) (d i)
     same-passes i h = same-second i h (same-first i h)
 
   -- ---- the lists
@@ -106,14 +105,14 @@ module _ (f : Frame) (w : Permutes (f .bits) (f .pattern)) where
   same-list z xs ys long also h =
       ext-getD z xs ys (long ∙ sym also) (λ x l. by-pattern (λ x. getD xs x z ≡ getD ys x z) h x (omega arith))
 
-  same-written : (p q : Pass) → Same f p q → (x y : DecodeLent) → AreWritten f p x → AreWritten f q y → AreKept x y
+  same-written : (p q : Pass) → Same f (f .second) p q → (x y : DecodeLent) → AreWritten f p x → AreWritten f q y → AreKept x y
   same-written p q same x y one other = record {
-    bits = same-list 0 _ _ (other .bits-long) (one .bits-long) (λ k h. other .bit k h ∙ ap decided (sym (same-margin f p q same k h)) ∙ sym (one .bit k h));
+    bits = same-list 0 _ _ (other .bits-long) (one .bits-long) (λ k h. other .bit k h ∙ ap decided (sym (same-margin f (f .second) p q same k h)) ∙ sym (one .bit k h));
     margins =
-        same-list (pos 0) _ _ (other .margins-long) (one .margins-long) (λ k h. other .margin k h ∙ sym (same-margin f p q same k h) ∙ sym (one .margin k h));
+        same-list (pos 0) _ _ (other .margins-long) (one .margins-long) (λ k h. other .margin k h ∙ sym (same-margin f (f .second) p q same k h) ∙ sym (one .margin k h));
     extrinsics =
         same-list (pos 0) _ _ (other .extrinsics-long) (one .extrinsics-long)
-        (λ k h. other .extrinsic k h ∙ sym (same-extrinsic f p q same k h) ∙ sym (one .extrinsic k h));
+        (λ k h. other .extrinsic k h ∙ sym (same-extrinsic f (f .second) p q same k h) ∙ sym (one .extrinsic k h));
   }
 
 -- ---- the whole call
@@ -138,19 +137,19 @@ module _ (c : DecodeCall) (l : DecodeLent) (known : Decodable c l) (x y : Decode
       refused : {r : Reply} {n : Refusal} → r ≡ Refused n → r ≡ Done → ⊥
       refused e f = refused-is-not-done (sym e ∙ f)
 
-      without-path : (SomePath (c .frame .table) (sections (c .frame)) → ⊥) → (x .reply ≡ y .reply) × AreKept (x .lists) (y .lists)
+      without-path : (BothPaths (c .frame) → ⊥) → (x .reply ≡ y .reply) × AreKept (x .lists) (y .lists)
       without-path h =
           let e = one .no-path .1 h in
           let f = other .no-path .1 h in
           (e ∙ sym f, both-kept (refused e) (refused f))
 
-      with-forced : SomePath (c .frame .table) (sections (c .frame)) × SomeEmpty (c .frame) → (x .reply ≡ y .reply) × AreKept (x .lists) (y .lists)
+      with-forced : BothPaths (c .frame) × EitherEmpty (c .frame) → (x .reply ≡ y .reply) × AreKept (x .lists) (y .lists)
       with-forced h =
           let e = one .forced .1 h in
           let f = other .forced .1 h in
           (e ∙ sym f, both-kept (refused e) (refused f))
 
-      free : SomePath (c .frame .table) (sections (c .frame)) × (SomeEmpty (c .frame) → ⊥) → (x .reply ≡ y .reply) × AreKept (x .lists) (y .lists)
+      free : BothPaths (c .frame) × (EitherEmpty (c .frame) → ⊥) → (x .reply ≡ y .reply) × AreKept (x .lists) (y .lists)
       free h =
           let e = one .done .1 h in
           let f = other .done .1 h in

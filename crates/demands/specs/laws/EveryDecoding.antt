@@ -1,6 +1,7 @@
 -- Demand 3 for the frame decoder, the proof: whatever is lent, a call to which no number but 12 or 13 applies is a whole decoding.
 -- Assumes nothing.
 use mathlib.Core.Path.{_≡_, refl, ap, _∙_}
+use mathlib.Core.Logic.{inr}
 use mathlib.Core.Bool.{false}
 use mathlib.Core.List.{List, _++_, map}
 use mathlib.Core.Option.{some, Option·elim}
@@ -12,62 +13,63 @@ use lib.Seq.{getD-append-add}
 use Rattle.integers.specs.Integers.{maxℤ, minℤ, limited}
 use Rattle.lists.specs.laws.Listed.{listed-at}
 use Rattle.refusal.specs.declared.Reply.the-variants.{Done}
+use Rattle.trellis.specs.declared.End.{End}
 use Rattle.trellis.specs.declared.Outcome.the-variants.{Free}
 use Rattle.trellis.specs.Path.{Values, aprioriAt}
 use Rattle.trellis.specs.Outcome.{outcome, forced, margin, margins, extrinsics}
 use Rattle.trellis.specs.laws.Emptiness.{outcome-is-free}
 use Rattle.frame.specs.Interleaver.{deinterleave}
 use Rattle.frame.specs.laws.Interleaving.{Permutes, interleave-at, deinterleave-at, interleave-length, deinterleave-length}
-use Rattle.frame.specs.Frame.{Frame, sections, flags, spread}
+use Rattle.frame.specs.Frame.{Frame, sectionsOf, tailOf, flags, spread}
 use Rattle.decoder.specs.Decoder.{handOver, decided, channel1, channel2, Soft, pass, pass1, pass2, handOn, handBack, iteration, prior, lastPass}
 use Rattle.decoder.specs.laws.Decodable.{decodable}
 use Rattle.frame.specs.laws.Checked.{checked}
 use Rattle.decoder.specs.Decoder.{DecodeCall, DecodeLent, decodeChecked, decodeSettled, decode}
-use Rattle.demands.specs.Decoding.{Pass, marginAt, extrinsicAt, IsPass, patternAt, AreIterations, AreWritten, SomeEmpty, IsDecoding}
+use Rattle.demands.specs.Decoding.{Pass, marginAt, extrinsicAt, IsPass, patternAt, AreIterations, AreWritten, EitherEmpty, IsDecoding}
 use Rattle.demands.specs.laws.Outcomes.{outcome-means, margin-written, extrinsic-written}
 use Rattle.refusal.specs.laws.Kept.{after-done}
 use Rattle.demands.specs.laws.Replies.{unforced, decode-says, decode-clears, decode-keeps}
 
 -- ---- one pass
 
--- the pass over these channel values and K a-priori values
-passOver : Frame → List ℤ → List ℤ → Pass
-passOver f channel a =
-    let v : Values = record { channel = channel; apriori = a ++ replicate (f .tail) (pos 0) } in
-    record { values = v; said = outcome (f .table) v (sections f) }
+-- the pass by an end over these channel values and K a-priori values
+passOver : Frame → End → List ℤ → List ℤ → Pass
+passOver f end channel a =
+    let v : Values = record { channel = channel; apriori = a ++ replicate (tailOf end (f .tail)) (pos 0) } in
+    record { values = v; said = outcome (f .table) v end (sectionsOf f end) }
 
-module _ (f : Frame) (channel a : List ℤ) where
-  pass-margin-at : (k : ℕ) (d : ℤ) → k < f .bits → getD (pass f channel a .margins) k d ≡ marginAt (passOver f channel a) k
+module _ (f : Frame) (end : End) (channel a : List ℤ) where
+  pass-margin-at : (k : ℕ) (d : ℤ) → k < f .bits → getD (pass f end channel a .margins) k d ≡ marginAt (passOver f end channel a) k
   unfolding pass margins marginAt passOver
-  pass-margin-at k d h = listed-at _ (f .bits) k d h ∙ margin-written (f .table) _ (sections f) k
+  pass-margin-at k d h = listed-at _ (f .bits) k d h ∙ margin-written (f .table) _ end (sectionsOf f end) k
 
-  pass-extrinsic-at : (k : ℕ) (d : ℤ) → k < f .bits → getD (pass f channel a .extrinsics) k d ≡ extrinsicAt (f .table) (passOver f channel a) k
+  pass-extrinsic-at : (k : ℕ) (d : ℤ) → k < f .bits → getD (pass f end channel a .extrinsics) k d ≡ extrinsicAt (f .table) (passOver f end channel a) k
   unfolding pass extrinsics extrinsicAt passOver
-  pass-extrinsic-at k d h = listed-at _ (f .bits) k d h ∙ extrinsic-written (f .table) _ (sections f) k
+  pass-extrinsic-at k d h = listed-at _ (f .bits) k d h ∙ extrinsic-written (f .table) _ end (sectionsOf f end) k
 
   -- a position that isn't forced, where there is a path, is free
-  pass-free-at : (k : ℕ) → forced (f .table) (sections f) k ≡ false → passOver f channel a .said k ≡ some (Free (marginAt (passOver f channel a) k))
+  pass-free-at : (k : ℕ) → forced (f .table) end (sectionsOf f end) k ≡ false → passOver f end channel a .said k ≡ some (Free (marginAt (passOver f end channel a) k))
   unfolding marginAt passOver Option·elim margin
-  pass-free-at k e = let (m, is-free) = outcome-is-free (f .table) (sections f) k (passOver f channel a .values) .1 e in rw is-free
+  pass-free-at k e = let (m, is-free) = outcome-is-free (f .table) end (sectionsOf f end) k (passOver f end channel a .values) .1 e in rw is-free
 
   module _ (long : length a ≡ f .bits) where
-    apriori-at : (k : ℕ) → k < f .bits → aprioriAt (passOver f channel a .values) k ≡ getD a k (pos 0)
+    apriori-at : (k : ℕ) → k < f .bits → aprioriAt (passOver f end channel a .values) k ≡ getD a k (pos 0)
     unfolding aprioriAt passOver
-    apriori-at k h = List·getD-append a (replicate (f .tail) (pos 0)) (pos 0) k (omega arith)
+    apriori-at k h = List·getD-append a (replicate (tailOf end (f .tail)) (pos 0)) (pos 0) k (omega arith)
 
-    is-pass : IsPass f channel (passOver f channel a)
-    unfolding passOver aprioriAt sections
+    is-pass : IsPass f end channel (passOver f end channel a)
+    unfolding passOver aprioriAt
     is-pass = record {
       reads = refl;
       long = simp (length-append, length-replicate) (omega arith);
       tail = tail;
-      means = λ k h. outcome-means (f .table) _ (sections f) k;
+      means = λ k h. outcome-means (f .table) _ end (sectionsOf f end) k;
     }
       where
-        tail : (k : ℕ) → f .bits ≤ k → k < f .bits + f .tail → getD (a ++ replicate (f .tail) (pos 0)) k (pos 0) ≡ pos 0
+        tail : (k : ℕ) → f .bits ≤ k → k < sectionsOf f end → getD (a ++ replicate (tailOf end (f .tail)) (pos 0)) k (pos 0) ≡ pos 0
         tail k h l =
             let e : k ≡ length a + (k - f .bits) = omega arith in
-            rw e (getD-append-add a (replicate (f .tail) (pos 0)) (k - f .bits) (pos 0) ∙ getD-replicate (f .tail) (k - f .bits) (pos 0) (pos 0) (omega arith))
+            rw e (getD-append-add a (replicate (tailOf end (f .tail)) (pos 0)) (k - f .bits) (pos 0) ∙ getD-replicate (tailOf end (f .tail)) (k - f .bits) (pos 0) (pos 0) (omega arith))
 
 -- ---- all passes
 
@@ -77,10 +79,10 @@ hand-over-at xs k = List·getD-map handOver xs k (pos 0)
 
 module _ (f : Frame) (r : List ℤ) (w : Permutes (f .bits) (f .pattern)) where
   firstPass : ℕ → Pass
-  firstPass i = passOver f (channel1 f r) (prior f r i)
+  firstPass i = passOver f (f .first) (channel1 f r) (prior f r i)
 
   secondPass : ℕ → Pass
-  secondPass i = passOver f (channel2 f r) (handOn f (pass1 f r (prior f r i)))
+  secondPass i = passOver f (f .second) (channel2 f r) (handOn f (pass1 f r (prior f r i)))
 
   prior-long : (i : ℕ) → length (prior f r i) ≡ f .bits
   unfolding prior handBack
@@ -106,27 +108,27 @@ module _ (f : Frame) (r : List ℤ) (w : Permutes (f .bits) (f .pattern)) where
   -- the a-priori values of the very first pass, of a pass 2 and of any later pass 1
   starts-at : (k : ℕ) → k < f .bits → aprioriAt (firstPass 0 .values) k ≡ pos 0
   unfolding firstPass prior
-  starts-at k h = apriori-at f (channel1 f r) _ (prior-long 0) k h ∙ getD-replicate (f .bits) k (pos 0) (pos 0) h
+  starts-at k h = apriori-at f (f .first) (channel1 f r) _ (prior-long 0) k h ∙ getD-replicate (f .bits) k (pos 0) (pos 0) h
 
   on-at-pass : (i k : ℕ) → k < f .bits → aprioriAt (secondPass i .values) k ≡ handOver (extrinsicAt (f .table) (firstPass i) (patternAt f k))
   unfolding firstPass secondPass pass1
   on-at-pass i k h =
-      apriori-at f (channel2 f r) _ (handed-long _) k h
+      apriori-at f (f .second) (channel2 f r) _ (handed-long _) k h
       ∙ on-at (pass1 f r (prior f r i)) k h
-      ∙ ap handOver (pass-extrinsic-at f (channel1 f r) (prior f r i) (patternAt f k) (pos 0) (in-pattern k h))
+      ∙ ap handOver (pass-extrinsic-at f (f .first) (channel1 f r) (prior f r i) (patternAt f k) (pos 0) (in-pattern k h))
 
   back-at-pass : (i k : ℕ) → k < f .bits → aprioriAt (firstPass (suc i) .values) (patternAt f k) ≡ handOver (extrinsicAt (f .table) (secondPass i) k)
   unfolding firstPass secondPass prior iteration pass2
   back-at-pass i k h =
-      apriori-at f (channel1 f r) _ (prior-long (suc i)) (patternAt f k) (in-pattern k h)
+      apriori-at f (f .first) (channel1 f r) _ (prior-long (suc i)) (patternAt f k) (in-pattern k h)
       ∙ back-at (iteration f r (prior f r i)) k h
-      ∙ ap handOver (pass-extrinsic-at f (channel2 f r) _ k (pos 0) h)
+      ∙ ap handOver (pass-extrinsic-at f (f .second) (channel2 f r) _ k (pos 0) h)
 
   are-iterations : (n : ℕ) → AreIterations f r n firstPass secondPass
   unfolding firstPass secondPass
   are-iterations n = record {
-    pass-1 = λ i h. is-pass f (channel1 f r) (prior f r i) (prior-long i);
-    pass-2 = λ i h. is-pass f (channel2 f r) _ (handed-long _);
+    pass-1 = λ i h. is-pass f (f .first) (channel1 f r) (prior f r i) (prior-long i);
+    pass-2 = λ i h. is-pass f (f .second) (channel2 f r) _ (handed-long _);
     starts = starts-at;
     hands-on = λ i h. on-at-pass i;
     hands-back = λ i h. back-at-pass i;
@@ -134,26 +136,26 @@ module _ (f : Frame) (r : List ℤ) (w : Permutes (f .bits) (f .pattern)) where
 
   -- ---- the lists of the last pass 2
 
-  lists-written : (n : ℕ) (l : DecodeLent) → ((k : ℕ) → k < f .bits → forced (f .table) (sections f) k ≡ false) →
+  lists-written : (n : ℕ) (l : DecodeLent) → ((k : ℕ) → k < f .bits → forced (f .table) (f .second) (sectionsOf f (f .second)) k ≡ false) →
       l .bits ≡ deinterleave 0 (f .pattern) (map decided (lastPass f r n .margins)) →
       l .margins ≡ deinterleave (pos 0) (f .pattern) (lastPass f r n .margins) →
       l .extrinsics ≡ deinterleave (pos 0) (f .pattern) (lastPass f r n .extrinsics) → AreWritten f (secondPass (n - 1)) l
   unfolding lastPass iteration pass2 patternAt secondPass decided
   lists-written n l free bits margins extrinsics =
       let a = handOn f (pass1 f r (prior f r (n - 1))) in
-      let s = pass f (channel2 f r) a in
+      let s = pass f (f .second) (channel2 f r) a in
       record {
         bits-long = rw bits (deinterleave-length 0 (f .bits) (f .pattern) w _);
         margins-long = rw margins (deinterleave-length (pos 0) (f .bits) (f .pattern) w _);
         extrinsics-long = rw extrinsics (deinterleave-length (pos 0) (f .bits) (f .pattern) w _);
-        free = λ k h. pass-free-at f (channel2 f r) a k (free k h);
+        free = λ k h. pass-free-at f (f .second) (channel2 f r) a k (free k h);
         bit = λ k h.
             rw bits
             (deinterleave-at 0 (f .bits) (f .pattern) w _ k h
             ∙ List·getD-map decided (s .margins) k (negsuc 0)
-            ∙ ap decided (pass-margin-at f (channel2 f r) a k (negsuc 0) h));
-        margin = λ k h. rw margins (deinterleave-at (pos 0) (f .bits) (f .pattern) w _ k h ∙ pass-margin-at f (channel2 f r) a k (pos 0) h);
-        extrinsic = λ k h. rw extrinsics (deinterleave-at (pos 0) (f .bits) (f .pattern) w _ k h ∙ pass-extrinsic-at f (channel2 f r) a k (pos 0) h);
+            ∙ ap decided (pass-margin-at f (f .second) (channel2 f r) a k (negsuc 0) h));
+        margin = λ k h. rw margins (deinterleave-at (pos 0) (f .bits) (f .pattern) w _ k h ∙ pass-margin-at f (f .second) (channel2 f r) a k (pos 0) h);
+        extrinsic = λ k h. rw extrinsics (deinterleave-at (pos 0) (f .bits) (f .pattern) w _ k h ∙ pass-extrinsic-at f (f .second) (channel2 f r) a k (pos 0) h);
       }
 
 -- ---- the whole call
@@ -163,11 +165,11 @@ module _ (c : DecodeCall) (l : DecodeLent) where
   abbrev values : List ℤ
   values = spread (pos 0) (flags (c .frame)) (c .received)
 
-  last-written : (w : Permutes (c .frame .bits) (c .frame .pattern)) → (SomeEmpty (c .frame) → ⊥) → decode c l .reply ≡ Done →
+  last-written : (w : Permutes (c .frame .bits) (c .frame .pattern)) → (EitherEmpty (c .frame) → ⊥) → decode c l .reply ≡ Done →
       AreWritten (c .frame) (secondPass (c .frame) values w (c .iterations - 1)) (decode c l .lists)
   unfolding decode decodeSettled
   last-written w h e =
-      lists-written (c .frame) values w (c .iterations) (decode c l .lists) (unforced (c .frame) h) (after-done e _ _) (after-done e _ _) (after-done e _ _)
+      lists-written (c .frame) values w (c .iterations) (decode c l .lists) (unforced (c .frame) (c .frame .second) (λ e. h (inr e))) (after-done e _ _) (after-done e _ _) (after-done e _ _)
 
   -- whatever is lent: a call to which no number but 12 or 13 applies is a whole decoding
   pub every-decoding-means : decodeChecked c l ≡ Done → IsDecoding c l (decode c l)

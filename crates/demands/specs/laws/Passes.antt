@@ -17,11 +17,12 @@ use lib.Seq.{getD-append-add}
 use borrow.Author.Tests.{eqb-true}
 use Rattle.lists.specs.laws.Listed.{listed-length}
 use Rattle.lists.specs.laws.Tests.{and-left, and-right}
+use Rattle.trellis.specs.declared.End.{End}
 use Rattle.trellis.specs.Table.{systematic}
 use Rattle.trellis.specs.Path.{Values, TrellisPath, aprioriAt, channelAt, signed}
 use Rattle.trellis.specs.Outcome.{forced, margins, extrinsics}
 use Rattle.trellis.specs.laws.RightSigned.{RightSigned}
-use Rattle.frame.specs.Frame.{Frame, sections, codes}
+use Rattle.frame.specs.Frame.{Frame, sectionsOf, tailOf, codes}
 use Rattle.frame.specs.laws.Checked.{Framed}
 use Rattle.decoder.specs.Decoder.{pass}
 use Rattle.demands.specs.Coded.{IsCoderPath}
@@ -29,27 +30,23 @@ use Rattle.demands.specs.laws.RightPass.{extrinsic-signed, margin-signed
 use Rattle.demands.specs.laws.Heard.{ChannelAgrees, input-at}
 use Rattle.demands.specs.laws.Leaning.{Leans, Tells, zero-leans}
 
-module _ (f : Frame) (framed : Framed f) {inputs path : List ℕ} (coder : IsCoderPath f inputs path) {channel : List ℤ}
-    (heard : ChannelAgrees f path channel) {a : List ℤ} (told : Leans (f .bits) inputs a) where
+module _ (f : Frame) (framed : Framed f) {end : End} {inputs : List ℕ} {path : TrellisPath} (coder : IsCoderPath f end inputs path) {channel : List ℤ}
+    (heard : ChannelAgrees f end path channel) {a : List ℤ} (told : Leans (f .bits) inputs a) where
   abbrev zeros : List ℤ
-  zeros = replicate (f .tail) (pos 0)
+  zeros = replicate (tailOf end (f .tail)) (pos 0)
 
   abbrev values : Values
   values = record { channel = channel; apriori = a ++ zeros }
 
-  abbrev taken : TrellisPath
-  taken = record { start = 0; bits = path }
-
   -- what the pass is told; of the tail it is told nothing
-  apriori-leans : (k : ℕ) → k < sections f → pos 0 ≤ℤ signed (getD path k 0) (getD (a ++ zeros) k (pos 0))
-  unfolding sections
+  apriori-leans : (k : ℕ) → k < sectionsOf f end → pos 0 ≤ℤ signed (getD (path .bits) k 0) (getD (a ++ zeros) k (pos 0))
   apriori-leans k h = elim (decLt k (f .bits)) [
     | yes here ↦ rw (input-at coder k here, List·getD-append a zeros (pos 0) k (omega (arith, told .long))) (told .signs k here)
-    | no here ↦ rw (after (k - f .bits) (omega (arith, told .long)) (omega arith)) (zero-leans (getD path k 0))
+    | no here ↦ rw (after (k - f .bits) (omega (arith, told .long)) (omega arith)) (zero-leans (getD (path .bits) k 0))
   ]
     where
-      after : (j : ℕ) → k ≡ length a + j → j < f .tail → getD (a ++ zeros) k (pos 0) ≡ pos 0
-      after j e l = rw e (getD-append-add a zeros j (pos 0) ∙ getD-replicate (f .tail) j (pos 0) (pos 0) l)
+      after : (j : ℕ) → k ≡ length a + j → j < tailOf end (f .tail) → getD (a ++ zeros) k (pos 0) ≡ pos 0
+      after j e l = rw e (getD-append-add a zeros j (pos 0) ∙ getD-replicate (tailOf end (f .tail)) j (pos 0) (pos 0) l)
 
   two-outputs : f .table .outputs ≡ 2
   unfolding codes
@@ -59,29 +56,29 @@ module _ (f : Frame) (framed : Framed f) {inputs path : List ℕ} (coder : IsCod
   unfolding channelAt
   channel-is k l = ap (λ (n : ℕ). getD channel (n * k + l) (pos 0)) two-outputs
 
-  right : RightSigned (f .table) values (sections f) taken
+  right : RightSigned (f .table) values end (sectionsOf f end) path
   unfolding aprioriAt
   right = record {
-    path = coder .terminated;
+    path = coder .is-path;
     agrees = λ k h. record { apriori = apriori-leans k h; channel = λ l g. rw (channel-is k l) (heard .agrees k l h (omega (arith, two-outputs))) };
   }
 
-  pub extrinsics-lean : Leans (f .bits) inputs (pass f channel a .extrinsics)
-  unfolding pass extrinsics sections
+  pub extrinsics-lean : Leans (f .bits) inputs (pass f end channel a .extrinsics)
+  unfolding pass extrinsics
   extrinsics-lean = record {
     long = listed-length _ (f .bits);
     signs = λ k h.
         rw (input-at coder k h) at
-        (extrinsic-signed (f .table) values (sections f) taken right (framed .shape) (framed .branches) (f .bits) (omega arith) k h);
+        (extrinsic-signed (f .table) values end (sectionsOf f end) path right (framed .shape) (framed .branches) (f .bits) (omega arith) k h);
   }
 
-  pub margins-tell : ((k : ℕ) → k < f .bits → forced (f .table) (sections f) k ≡ false) →
-      ((k : ℕ) → k < f .bits → getD channel (2 * k) (pos 0) ≢ pos 0) → Tells (f .bits) inputs (pass f channel a .margins)
-  unfolding pass margins sections codes
+  pub margins-tell : ((k : ℕ) → k < f .bits → forced (f .table) end (sectionsOf f end) k ≡ false) →
+      ((k : ℕ) → k < f .bits → getD channel (2 * k) (pos 0) ≢ pos 0) → Tells (f .bits) inputs (pass f end channel a .margins)
+  unfolding pass margins codes
   margins-tell free nonzero = record {
     long = listed-length _ (f .bits);
     signs = λ k h.
         rw (input-at coder k h) at
-        (margin-signed (f .table) values (sections f) taken right (framed .shape) (framed .branches) (f .bits) (omega arith) k h
+        (margin-signed (f .table) values end (sectionsOf f end) path right (framed .shape) (framed .branches) (f .bits) (omega arith) k h
         (and-left _ _ (framed .codes)) (free k h) (rw (channel-is k 0, add-zero (2 * k)) (nonzero k h)));
   }

@@ -1,5 +1,5 @@
--- The frame decoder's reply by its paths: 12 exactly where there is none, 13 exactly where there is one and a message position is forced, and
--- done otherwise; and what each of these replies leaves of the lists.
+-- The frame decoder's reply by its paths: 12 exactly where not each coder has one, 13 exactly where each has and a message position is forced in either,
+-- and done otherwise; and what each of these replies leaves of the lists.
 -- Assumes nothing.
 use mathlib.Core.Path.{_≡_, refl, sym, _∙_}
 use mathlib.Core.Logic.{_↔_, _⊎_, inl, inr, ⊎-elim}
@@ -16,57 +16,83 @@ use Rattle.refusal.specs.declared.Reply.{Reply}
 use Rattle.refusal.specs.declared.Reply.the-variants.{Done, Refused}
 use Rattle.refusal.specs.Refusals.{check, _then_}
 use Rattle.refusal.specs.laws.Checks.{refused-is-not-done, done-then}
+use Rattle.trellis.specs.declared.End.{End}
 use Rattle.trellis.specs.Path.{class}
 use Rattle.trellis.specs.Outcome.{pathless, forced}
-use Rattle.frame.specs.Frame.{Frame, sections}
+use Rattle.frame.specs.Frame.{Frame, sectionsOf, tail1, tail2, sections1, sections2}
 use Rattle.decoder.specs.Decoder.{DecodeCall, DecodeLent, decodeChecked, decodeWalked, decodeReply, decodeSettled, decode}
 use Rattle.decoder.specs.laws.Settled.{walked-clears}
-use Rattle.demands.specs.Meaning.{SomePath}
 use Rattle.refusal.specs.laws.Kept.{after-refusal}
 use Rattle.demands.specs.laws.Told.{Tells, path-told, class-empty}
-use Rattle.demands.specs.Decoding.{AreKept, SomeEmpty}
+use Rattle.demands.specs.Decoding.{AreKept, BothPaths, SomeEmpty, EitherEmpty}
 
 -- ---- paths and classes
 
-module _ (f : Frame) where
-  empty-forces : (k b : ℕ) → b < 2 → isEmpty (class (f .table) (sections f) k b) ≡ true → forced (f .table) (sections f) k ≡ true
+module _ (f : Frame) (end : End) where
+  empty-forces : (k b : ℕ) → b < 2 → isEmpty (class (f .table) end (sectionsOf f end) k b) ≡ true → forced (f .table) end (sectionsOf f end) k ≡ true
   unfolding forced
   empty-forces k zero h e = rw e
-  empty-forces k (suc zero) h e = rw e (or-right (isEmpty (class (f .table) (sections f) k 0)))
+  empty-forces k (suc zero) h e = rw e (or-right (isEmpty (class (f .table) end (sectionsOf f end) k 0)))
     where
       or-right : (a : Bool) → (a || true) ≡ true
       or-right true = refl
       or-right false = refl
   empty-forces k (suc (suc b)) h e = absurd (omega arith)
 
-  forced-empty : (k : ℕ) → k < f .bits → forced (f .table) (sections f) k ≡ true → SomeEmpty f
+  forced-empty : (k : ℕ) → k < f .bits → forced (f .table) end (sectionsOf f end) k ≡ true → SomeEmpty f end
   unfolding forced
   forced-empty k h e = ⊎-elim (at 0 (omega arith)) (at 1 (omega arith)) (or-cases _ _ e)
     where
-      at : (b : ℕ) → b < 2 → isEmpty (class (f .table) (sections f) k b) ≡ true → SomeEmpty f
-      at b l e = record { position = k; in-message = h; bit = b; is-bit = l; empty = class-empty (f .table) (sections f) k b .0 e }
+      at : (b : ℕ) → b < 2 → isEmpty (class (f .table) end (sectionsOf f end) k b) ≡ true → SomeEmpty f end
+      at b l e = record { position = k; in-message = h; bit = b; is-bit = l; empty = class-empty (f .table) end (sectionsOf f end) k b .0 e }
 
   -- where no class of a message position is empty, no message position is forced
-  pub unforced : (SomeEmpty f → ⊥) → (k : ℕ) → k < f .bits → forced (f .table) (sections f) k ≡ false
-  unforced h k l = go (forced (f .table) (sections f) k) refl
+  pub unforced : (SomeEmpty f end → ⊥) → (k : ℕ) → k < f .bits → forced (f .table) end (sectionsOf f end) k ≡ false
+  unforced h k l = go (forced (f .table) end (sectionsOf f end) k) refl
     where
-      go : (b : Bool) → forced (f .table) (sections f) k ≡ b → b ≡ false
+      go : (b : Bool) → forced (f .table) end (sectionsOf f end) k ≡ b → b ≡ false
       go true e = absurd (h (forced-empty k l e))
       go false e = refl
 
-  forced-told : Tells (any (forced (f .table) (sections f)) (upto (f .bits))) (SomeEmpty f)
+  forced-told : Tells (any (forced (f .table) end (sectionsOf f end)) (upto (f .bits))) (SomeEmpty f end)
   forced-told = record {
-    yes = λ e. let (k, h, p) = any-upto-at (forced (f .table) (sections f)) (f .bits) e in forced-empty k h p;
+    yes = λ e. let (k, h, p) = any-upto-at (forced (f .table) end (sectionsOf f end)) (f .bits) e in forced-empty k h p;
     no = λ e s.
         false≢true
         (sym e
-        ∙ at-any-upto (forced (f .table) (sections f)) (f .bits) (s .position) (s .in-message)
-        (empty-forces (s .position) (s .bit) (s .is-bit) (class-empty (f .table) (sections f) (s .position) (s .bit) .1 (s .empty))));
+        ∙ at-any-upto (forced (f .table) end (sectionsOf f end)) (f .bits) (s .position) (s .in-message)
+        (empty-forces (s .position) (s .bit) (s .is-bit) (class-empty (f .table) end (sectionsOf f end) (s .position) (s .bit) .1 (s .empty))));
   }
+
+-- ---- two coders
+
+both-told : {P Q : Type 0} (b d : Bool) → Tells (not b) P → Tells (not d) Q → Tells (not (b || d)) (P × Q)
+both-told true d t u = record { yes = λ e. absurd (false≢true e); no = λ e p. t .no refl (p .0) }
+both-told false true t u = record { yes = λ e. absurd (false≢true e); no = λ e p. u .no refl (p .1) }
+both-told false false t u = record { yes = λ e. (t .yes refl, u .yes refl); no = λ e. absurd (false≢true (sym e)) }
+
+either-told : {P Q : Type 0} (b d : Bool) → Tells b P → Tells d Q → Tells (b || d) (P ⊎ Q)
+either-told true d t u = record { yes = λ e. inl (t .yes refl); no = λ e. absurd (false≢true (sym e)) }
+either-told false true t u = record { yes = λ e. inr (u .yes refl); no = λ e. absurd (false≢true (sym e)) }
+either-told false false t u = record { yes = λ e. absurd (false≢true e); no = λ e. ⊎-elim (t .no refl) (u .no refl) }
+
+module _ (f : Frame) where
+  paths-told : Tells (not (pathless (f .table) (f .first) (sections1 f) || pathless (f .table) (f .second) (sections2 f))) (BothPaths f)
+  unfolding sections1 sections2 tail1 tail2
+  paths-told =
+      let n = sectionsOf f (f .first) in
+      let m = sectionsOf f (f .second) in
+      both-told (pathless (f .table) (f .first) n) (pathless (f .table) (f .second) m) (path-told (f .table) (f .first) n) (path-told (f .table) (f .second) m)
+
+  empty-told : Tells
+      (any (forced (f .table) (f .first) (sections1 f)) (upto (f .bits)) || any (forced (f .table) (f .second) (sections2 f)) (upto (f .bits)))
+      (EitherEmpty f)
+  unfolding sections1 sections2 tail1 tail2
+  empty-told = either-told _ _ (forced-told f (f .first)) (forced-told f (f .second))
 
 -- ---- the reply
 
--- what a reply says, where P is that there is a path, and Q that a message position is forced
+-- what a reply says, where P is that each coder has a path, and Q that a message position is forced
 pub record Says (r : Reply) (P Q : Type 0) : Type 0 where
   pub no-path : (r ≡ Refused NoPath) ↔ (P → ⊥)
   pub forced : (r ≡ Refused ForcedPosition) ↔ (P × Q)
@@ -107,18 +133,17 @@ ways false d t u = inl (t .no refl)
 ways true true t u = inr (inl (t .yes refl, u .yes refl))
 ways true false t u = inr (inr (t .yes refl, u .no refl))
 
-pub frame-ways : (f : Frame) →
-    (SomePath (f .table) (sections f) → ⊥) ⊎ ((SomePath (f .table) (sections f) × SomeEmpty f) ⊎ (SomePath (f .table) (sections f) × (SomeEmpty f → ⊥)))
-frame-ways f = ways _ _ (path-told (f .table) (sections f)) (forced-told f)
+pub frame-ways : (f : Frame) → (BothPaths f → ⊥) ⊎ ((BothPaths f × EitherEmpty f) ⊎ (BothPaths f × (EitherEmpty f → ⊥)))
+frame-ways f = ways _ _ (paths-told f) (empty-told f)
 
 module _ (c : DecodeCall) (l : DecodeLent) (passed : decodeChecked c l ≡ Done) where
   reply-is : decode c l .reply ≡ decodeWalked c
   unfolding decode decodeSettled decodeReply
   reply-is = done-then {y = decodeWalked c} passed
 
-  pub decode-says : Says (decode c l .reply) (SomePath (c .frame .table) (sections (c .frame))) (SomeEmpty (c .frame))
+  pub decode-says : Says (decode c l .reply) (BothPaths (c .frame)) (EitherEmpty (c .frame))
   unfolding decodeWalked
-  decode-says = rw reply-is (reply-says _ _ (path-told (c .frame .table) (sections (c .frame))) (forced-told (c .frame)))
+  decode-says = rw reply-is (reply-says _ _ (paths-told (c .frame)) (empty-told (c .frame)))
 
   -- 12 and 13 clear the working list, as success does
   pub decode-clears : decode c l .lists .work ≡ replicate (length (l .work)) (pos 0)

@@ -11,11 +11,11 @@ use lib.ListN.{getD}
 use Rattle.trellis.specs.Outcome.{forced}
 use Rattle.frame.specs.Interleaver.{interleave, deinterleave}
 use Rattle.frame.specs.laws.Interleaving.{Permutes, deinterleave-undoes}
-use Rattle.frame.specs.Frame.{Frame, sections}
-use Rattle.decoder.specs.Decoder.{decided, pass1, pass2, handOn, handBack, iteration, prior, lastPass}
+use Rattle.frame.specs.Frame.{Frame, sectionsOf, tail1, tail2}
+use Rattle.decoder.specs.Decoder.{decided, channel2, pass1, pass2, handOn, handBack, iteration, prior, lastPass}
 use Rattle.frame.specs.laws.Checked.{checked}
 use Rattle.decoder.specs.laws.Channels.{channel2-systematic}
-use Rattle.demands.specs.laws.Heard.{IsHeard, inputs-long, input-at, first-agrees, second-agrees}
+use Rattle.demands.specs.laws.Heard.{IsHeard, first-agrees, second-agrees}
 use Rattle.demands.specs.laws.Leaning.{Leans, Tells, zeros-lean, handed-leans, decided-all, interleaved-leans, deinterleaved-leans}
 use Rattle.demands.specs.laws.Passes.{extrinsics-lean, margins-tell}
 
@@ -43,18 +43,15 @@ module _ {f : Frame} {message : List ℕ} {r : List ℤ} (heard : IsHeard f mess
   prior-leans zero = zeros-lean (f .bits) message
   prior-leans (suc i) = handed-back (prior-leans i)
 
-  module _ (free : (k : ℕ) → k < f .bits → forced (f .table) (sections f) k ≡ false) (told : (k : ℕ) → k < f .bits → getD r (3 * k) (pos 0) ≢ pos 0)
+  module _ (free : (k : ℕ) → k < f .bits → forced (f .table) (f .second) (sectionsOf f (f .second)) k ≡ false) (told : (k : ℕ) → k < f .bits → getD r (3 * k) (pos 0) ≢ pos 0)
       (n : ℕ) where
     margins-tell-message : Tells (f .bits) interleaved (lastPass f r n .margins)
-    unfolding lastPass iteration pass2
+    unfolding lastPass iteration pass2 channel2
     margins-tell-message =
         margins-tell f (heard .framed) (heard .second-coder) (second-agrees heard) (handed-on (prior-leans (n - 1))) free
-        (λ k h. rw (channel2-systematic f r k h) (told (getD (f .pattern) k 0) (permuted .below k h)))
-
-    interleaved-bit : (k : ℕ) → k < f .bits → getD interleaved k 0 < 2
-    interleaved-bit k h = rw (input-at (heard .second-coder) k h) at (heard .second-coder .terminated .bits .bit k)
+        (λ k h. rw (channel2-systematic (f .pattern) (f .bits) (tail1 f) (tail2 f) r k h) (told (getD (f .pattern) k 0) (permuted .below k h)))
 
     pub bits-are-the-message : deinterleave 0 (f .pattern) (map decided (lastPass f r n .margins)) ≡ message
     bits-are-the-message =
-        ap (λ (l : List ℕ). deinterleave 0 (f .pattern) l) (decided-all (inputs-long (heard .second-coder)) interleaved-bit margins-tell-message)
-        ∙ deinterleave-undoes 0 (f .bits) (f .pattern) permuted message (inputs-long (heard .first-coder))
+        ap (λ (l : List ℕ). deinterleave 0 (f .pattern) l) (decided-all (heard .second-coder .own .size) (λ k h. heard .second-coder .own .bit k) margins-tell-message)
+        ∙ deinterleave-undoes 0 (f .bits) (f .pattern) permuted message (heard .first-coder .own .size)

@@ -3,12 +3,13 @@
 -- Assumes nothing.
 use mathlib.Core.Path.{_≡_, sym, _∙_}
 use mathlib.Core.Bool.{true}
+use Prim.Native.Nat.{_+_, _≤_}
 use native.Mathlib.Omega.{arith}
 use borrow.Author.Needs.{needs}
 use borrow.Author.Tests.{leb-true, not-true, not-false}
 use Rattle.lists.specs.laws.Tests.{and-left}
 use Rattle.frame.specs.Frame.{goodSizes, goodMasks}
-use Rattle.frame.specs.laws.Checked.{sizes-small}
+use Rattle.frame.specs.laws.Checked.{sizes-small, few-tail}
 use Rattle.frame.proofs.checks.frame_fits.Statement.{statement}
 use Rattle.frame.proofs.checks.frame_fits.Tie as tie
 
@@ -30,14 +31,34 @@ masks-fit-requires c κs = search needs
 returns-2 : tie.Need-returns-2
 returns-2 c = rw (sized (c .before .before), sym (c .before .masks-fit .ensures) ∙ not-true _ (c .if2 .taken))
 
+tail-of-requires : tie.Need-tail-of-requires
+tail-of-requires c κs = search needs
+
+tail-of-requires-2 : tie.Need-tail-of-requires-2
+tail-of-requires-2 c κs = search needs
+
+-- the tail sections of both coders are few
+few : (c : tie.After-tail-of2) → let args = c .before .before .before .before .before .before .before .args in
+    (c .before .tail-of .result + c .tail-of2 .result ≤ 8) × (args .bits ≤ 4096)
+few c =
+    let measured = c .before .before in
+    let args = measured .before .before .before .before .before .args in
+    let small = sizes-small (args .bits) (args .tail) (sized (measured .before .before)) in (
+      omega (arith, small .0, c .before .tail-of .ensures, c .tail-of2 .ensures, few-tail (args .first) (args .tail), few-tail (args .second) (args .tail)),
+      omega (arith, small .1),
+    )
+
+add-tails : tie.Need-add-tails
+add-tails c = omega (arith, few c)
+
 frame-length-requires : tie.Need-frame-length-requires
-frame-length-requires c κs =
-    let args = c .before .before .before .before .before .args in
-    let small = sizes-small (args .bits) (args .tail) (sized (c .before .before)) in
-    (leb-true 1 _ (and-left _ _ (and-left _ _ (masked c))), (omega (arith, small .1), small .0))
+frame-length-requires c κs = (leb-true 1 _ (and-left _ _ (and-left _ _ (masked (c .before .before)))), (few c .1, few c .0))
 
 returns-3 : tie.Need-returns-3
-returns-3 c = rw (sized (c .before .before .before), masked (c .before), c .frame-length .ensures)
+returns-3 c =
+    let tails = c .before in
+    let measured = tails .before .before in
+    rw (sized (measured .before .before), masked measured, c .frame-length .ensures, tails .tail-of2 .ensures, tails .before .tail-of .ensures)
 
 pub frame-fits-spec : {M : Type 1} → statement M
-frame-fits-spec = tie.close (tie.spec sizes-fit-requires returns masks-fit-requires returns-2 frame-length-requires returns-3)
+frame-fits-spec = tie.close (tie.spec sizes-fit-requires returns masks-fit-requires returns-2 tail-of-requires tail-of-requires-2 add-tails frame-length-requires returns-3)

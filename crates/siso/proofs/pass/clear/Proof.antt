@@ -1,4 +1,4 @@
--- `siso::sweep::clear` leaves a list of zeros. Invariant: the list is as long as it was, and zeros up to i. Assumes nothing.
+-- `siso::pass::clear` leaves a list of zeros. Invariant: the list is as long as it was, and zeros up to i. Assumes nothing.
 use mathlib.Core.Path.{_≡_, refl, sym, _∙_}
 use mathlib.Core.List.{List}
 use Prim.Native.Nat.{ℕ, _+_, _≤_, _<_, _-_}
@@ -8,8 +8,8 @@ use lib.IntN.{ℤ, pos}
 use lib.ListN.{length, replicate, take, set, replicate-append-replicate}
 use lib.Seq.{take-suc-set, take-all}
 use borrow.Author.Needs.{needs}
-use Rattle.siso.proofs.sweep.clear.Statement.{statement}
-use Rattle.siso.proofs.sweep.clear.Tie as tie
+use Rattle.siso.proofs.pass.clear.Statement.{statement}
+use Rattle.siso.proofs.pass.clear.Tie as tie
 
 abbrev Inv-loop : tie.InvT-loop
 Inv-loop work₀ i₀ work i = (i ≤ length work₀) × (length work ≡ length work₀) × (take i work ≡ replicate i (pos 0))

@@ -1,4 +1,4 @@
--- `sweep::settle` returns the position of two best metrics, with the intrinsic part of its section, which is small since both values are.
+-- `result::settle` returns the position of two best metrics, with the intrinsic part of its section, which is small since both values are.
 -- Assumes nothing.
 use mathlib.Core.Bool.{Bool, true, false, cond}
 use mathlib.Core.Path.{_≡_}
@@ -6,8 +6,8 @@ use lib.IntN.{ℤ, pos, _+ℤ_}
 use Rattle.integers.specs.laws.Bounds.{Within}
 use Rattle.integers.specs.laws.Laws.{within-zero, within-sum}
 use Rattle.integers.specs.laws.Linear.{plain}
-use Rattle.siso.proofs.sweep.settle.Statement.{statement}
-use Rattle.siso.proofs.sweep.settle.Tie as tie
+use Rattle.siso.proofs.result.settle.Statement.{statement}
+use Rattle.siso.proofs.result.settle.Tie as tie
 
 -- it is small, whether the table is systematic or not
 told-within : {a y : ℤ} (sys : Bool) → Within 8191 a → Within 1023 y → Within 9214 (a +ℤ cond sys y (pos 0))
