@@ -7,7 +7,6 @@ mod checks;
 mod metric;
 mod pass;
 mod position;
-mod result;
 mod section;
 mod starts;
 mod sweep;

@@ -1,14 +1,13 @@
 // The two sweeps of the paths that start in one state: forward metrics into the working list, and best metrics gathered on the way back.
+ghost use mathlib.Core.Bool.{true, false};
 ghost use mathlib.Core.Path.{_≡_};
 ghost use Prim.Native.Nat.{_+_, _*_, _^_, _<_};
 ghost use lib.ListN.{length};
 ghost use Rattle.lists.specs.Lists.{found};
 ghost use Rattle.trellis.specs.Table.{tableOf};
 ghost use Rattle.trellis.specs.laws.Sweeps.{starts as startsOf, reachFrom};
-ghost use Rattle.siso.specs.laws.Held.{Raised};
 ghost use Rattle.siso.specs.Lent.{valuesOf};
-ghost use Rattle.siso.specs.laws.Pass.{Pass, Forward, Bests};
-use crate::metric::larger;
+ghost use Rattle.siso.specs.laws.Pass.{Pass, Forward, Bests, Last, Written};
 use trellis::End;
 
 // The forward metrics before every section of paths that start in a state, in the working list; and whether one finishes where the end lets it. The
@@ -44,7 +43,7 @@ pub fn forward(
         (valuesOf (now (channel .entry)) (now (apriori .entry)))
         end sections start) ⌝ }
 {
-    let mut m = crate::metric::boundary(start);
+    let mut m = crate::metric::beginning(start);
     let mut k: usize = 0;
     while k < sections {
         let from = outputs * k;
@@ -66,17 +65,8 @@ pub fn forward(
     crate::metric::arrived(m, crate::metric::ending(end, start), states)
 }
 
-// An entry of a list of metrics becomes the larger of it and another metric.
-fn raise(xs: &mut [i32], k: usize, m: i32)
-    requires { ⌜ k < length (now xs) ⌝ }
-    ensures { λ _. ⌜ Raised k m (now (xs .entry)) (now (xs .exit)) ⌝ }
-{
-    let x = xs[k];
-    xs[k] = larger(x, m);
-}
-
-// The best metrics with bit 0 and with bit 1 at every position, of paths that start in one of the states up to this one, from those of paths
-// that start in the states before it. The sweep goes from the last section to the first.
+// The best metrics with bit 0 and with bit 1 at every position, of paths that start in one of the states up to this one, from those of paths that start in
+// the states before it; from the last start the positions that they tell. The sweep goes from the last section to the first.
 pub fn gather(
     states: usize,
     outputs: usize,
@@ -87,8 +77,11 @@ pub fn gather(
     channel: &[i16],
     apriori: &[i16],
     start: usize,
-    zeros: &mut [i32],
-    ones: &mut [i32],
+    first: bool,
+    last: bool,
+    marks: &mut [u8],
+    margins: &mut [i32],
+    extrinsics: &mut [i32],
     g: &mut [i32],
     work: &[i32],
 )
@@ -101,15 +94,23 @@ pub fn gather(
     requires { ⌜
         Forward (tableOf states outputs (now next) (now words)) (valuesOf (now channel) (now apriori))
         start sections (now work) ⌝ }
+    requires { ⌜ length (now marks) ≡ sections ⌝ }
     requires { ⌜
         Bests (tableOf states outputs (now next) (now words)) (valuesOf (now channel) (now apriori))
-        end sections start (now zeros) (now ones) ⌝ }
+        end sections start first (now margins) (now extrinsics) ⌝ }
+    requires { ⌜ (last ≡ true → Last (tableOf states outputs (now next) (now words)) end sections start) ⌝ }
     ensures { λ _. ⌜
-        Bests
+        (last ≡ false → Bests
         (tableOf states outputs (now (next .entry)) (now (words .entry)))
         (valuesOf (now (channel .entry)) (now (apriori .entry)))
-        end sections (start + 1) (now (zeros .exit)) (now (ones .exit)) ⌝ }
+        end sections (start + 1) false (now (margins .exit)) (now (extrinsics .exit))) ⌝ }
+    ensures { λ _. ⌜
+        (last ≡ true → Written
+        (tableOf states outputs (now (next .entry)) (now (words .entry)))
+        (valuesOf (now (channel .entry)) (now (apriori .entry)))
+        end sections (now (marks .exit)) (now (margins .exit)) (now (extrinsics .exit))) ⌝ }
 {
+    let sys = trellis::is_systematic(states, outputs, next, words);
     let mut m = crate::metric::ending(end, start);
     let mut left = sections;
     while 0 < left {
@@ -128,8 +129,18 @@ pub fn gather(
             work,
             states * k,
         );
-        raise(zeros, k, b.zero);
-        raise(ones, k, b.one);
+        let told = crate::position::intrinsic(channel[from], a, sys);
+        crate::position::gather_at(
+            first,
+            last,
+            k,
+            b.zero,
+            b.one,
+            told,
+            marks,
+            margins,
+            extrinsics,
+        );
         let before = b.metrics;
         m = before;
         left = k;

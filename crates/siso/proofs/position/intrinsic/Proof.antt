@@ -1,12 +1,12 @@
--- `siso::result::intrinsic` is the a-priori value, and the systematic value with it where the table is systematic. The sum of two limited values fits.
+-- `siso::position::intrinsic` is the a-priori value, and the systematic value with it where the table is systematic. The sum of two limited values fits.
 -- Assumes nothing.
 use mathlib.Core.Path.{sym}
 use native.Mathlib.Omega.{arith}
 use lib.IntN.{+ℤ-idr}
 use Rattle.integers.specs.laws.Linear.{ints, plain, widen}
 use Rattle.integers.specs.laws.Parts.{parts}
-use Rattle.siso.proofs.result.intrinsic.Statement.{statement}
-use Rattle.siso.proofs.result.intrinsic.Tie as tie
+use Rattle.siso.proofs.position.intrinsic.Statement.{statement}
+use Rattle.siso.proofs.position.intrinsic.Tie as tie
 
 cast-result : tie.Need-cast-result
 cast-result c = let a = c .before .fits .a in simp plain (widen a)
