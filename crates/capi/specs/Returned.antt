@@ -8,7 +8,6 @@ use lib.ListN.{length}
 use Rattle.trellis.specs.declared.End.{End}
 use Rattle.trellis.specs.declared.End.the-variants.{Zero, Open, Ring}
 use Rattle.refusal.specs.declared.Refusal.the-variants.{Lists}
-use Rattle.refusal.specs.declared.Reply.{Reply}
 use Rattle.refusal.specs.Refusals.{numberOf, placeOf, check, after}
 use Rattle.taps.specs.Build.{TapsLent, TapsResult}
 use Rattle.siso.specs.Decode.{Lent, Result}

@@ -1,4 +1,5 @@
 pub mod Keep
+pub mod Lowest
 pub mod Tests
 pub mod Listed
 pub mod Every

@@ -11,6 +11,7 @@ mod section;
 mod starts;
 mod sweep;
 
+pub use pass::clear;
 use refusal::Reply;
 use trellis::End;
 

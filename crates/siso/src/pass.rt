@@ -12,8 +12,8 @@ use refusal::Refusal;
 use refusal::Reply;
 use trellis::End;
 
-// The working list cleared.
-fn clear(work: &mut [i32])
+// A working list cleared.
+pub fn clear(work: &mut [i32])
     ensures { λ _. ⌜ now (work .exit) ≡ replicate (length (now (work .entry))) (pos 0) ⌝ }
 {
     let mut i: usize = 0;

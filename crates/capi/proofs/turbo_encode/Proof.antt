@@ -2,7 +2,7 @@
 -- Assumes nothing.
 use mathlib.Core.Path.{_≡_, sym, ap, _∙_}
 use borrow.Author.Needs.{needs}
-use Rattle.refusal.specs.Refusals.{told, numberOf, placeOf}
+use Rattle.refusal.specs.Refusals.{told, numberOf}
 use Rattle.capi.specs.declared.ends.Ending.the-variants.{Known}
 use Rattle.capi.specs.Returned.{endOf, forEnding, encodeReturned}
 use Rattle.capi.specs.laws.Returning.{same-number}

@@ -11,7 +11,7 @@ use Rattle.lists.specs.laws.Tests.{and-left}
 use Rattle.trellis.specs.declared.End.{End}
 use Rattle.trellis.specs.Path.{TrellisPath}
 use Rattle.trellis.specs.Table.{Table, nextState, output, systematic, shaped, branched}
-use Rattle.trellis.specs.laws.Branches.{shaped-is, next-below, systematic-at}
+use Rattle.trellis.specs.laws.Branches.{next-below, systematic-at}
 use Rattle.trellis.specs.Best.{IsPath}
 use Rattle.frame.specs.Frame.{Frame, tail1, tail2, sections1, sections2, codes}
 use Rattle.coder.specs.Coder.{parityAt, sectionAt, places}

@@ -2,19 +2,14 @@
 -- Assumes nothing.
 use mathlib.Core.Path.{_≡_, refl, sym, ap, subst, _∙_}
 use mathlib.Core.Logic.{_↔_, _≢_}
-use mathlib.Core.Bool.{Bool, true, false, cond, false≢true}
-use mathlib.Core.List.{List, [], _∷_, _++_, head?}
-use mathlib.Core.Option.{Option, none, some, Option·map, map-eq-some-iff, map-eq-none-iff, Option·none-ne-some, Option·some-ne-none}
-use Prim.Native.Nat.{ℕ, zero, suc, _+_, _<_}
-use native.Mathlib.Nat.{add-zero}
-use native.Mathlib.Decide.{ℕ-discrete}
+use mathlib.Core.Bool.{false≢true}
+use mathlib.Core.List.{List, [], _∷_, _++_}
+use mathlib.Core.Option.{Option, none, some, map-eq-some-iff, map-eq-none-iff, Option·some-ne-none}
+use Prim.Native.Nat.{ℕ, _+_, _<_}
 use native.Mathlib.Omega.{arith}
-use lib.Dec.{eqb}
-use lib.ListN.{length, getD, length-append}
+use lib.ListN.{length, length-append}
 use lib.Seq.{getD-append-add}
-use borrow.Author.Tests.{eq-eqb}
-use Rattle.lists.specs.Lists.{listed, keep, upto, found}
-use Rattle.lists.specs.laws.Keep.{keep-append}
+use Rattle.lists.specs.Lists.{found}
 use Rattle.trellis.specs.declared.End.{End}
 use Rattle.trellis.specs.declared.End.the-variants.{Zero, Open, Ring}
 use Rattle.trellis.specs.Table.{Table}
@@ -25,48 +20,9 @@ use Rattle.frame.specs.Frame.{Frame, sectionsOf, tailOf}
 use Rattle.coder.specs.Coder.{tailFrom, ringStart, codedPath}
 use Rattle.coder.specs.Tail.{Before, IsFirst}
 use Rattle.coder.specs.laws.TailPaths.{no-tail, tail-exactly}
-use Rattle.coder.specs.laws.CodedPaths.{coded-is-path, ring-found}
+use Rattle.coder.specs.laws.CodedPaths.{coded-is-path, ring-exactly, ring-none}
 use Rattle.demands.specs.Coded.{SomeOwnPath, IsCoderPath}
 use Rattle.demands.specs.laws.Told.{Tells}
-
--- ---- the lowest state of a ring
-
-module _ (f : ℕ → Bool) where
-  append-none : {A : Type 0} (xs ys : List A) → xs ++ ys ≡ [] → (xs ≡ []) × (ys ≡ [])
-  append-none [] ys e = (refl, e)
-  append-none (x ∷ xs) ys e = absurd (let n : _≡_ {A = ℕ} (length (x ∷ xs ++ ys)) 0 = ap length e in omega arith)
-
-  -- what passes the test is kept
-  some-kept : (n r : ℕ) → r < n → f r ≡ true → keep f (upto n) ≡ [] → ⊥
-  unfolding upto listed keep
-  some-kept zero r l here e = absurd (omega arith)
-  some-kept (suc n) r l here e =
-      let (before, last) = append-none (keep f (upto n)) (keep f (n ∷ [])) (sym (keep-append f (upto n) (n ∷ [])) ∙ e) in
-      elim (ℕ-discrete r n) [
-        | yes same ↦ one (rw same at here) last
-        | no d ↦ some-kept n r (omega arith) here before
-      ]
-    where
-      one : f n ≡ true → keep f (n ∷ []) ≡ [] → ⊥
-      one here e = let none-left : n ∷ [] ≡ [] = rw here at e in let z : _≡_ {A = ℕ} 1 0 = ap length none-left in omega arith
-
-  -- and nothing below the first that is kept passes it
-  first-is-lowest : (n s r : ℕ) → head? (keep f (upto n)) ≡ some s → r < s → f r ≡ true → ⊥
-  unfolding upto listed keep
-  first-is-lowest zero s r e l here = Option·none-ne-some s e
-  first-is-lowest (suc n) s r e l here =
-      head-of-two (keep f (upto n)) refl (λ h. first-is-lowest n s r h l here) (sym (ap head? (keep-append f (upto n) (n ∷ []))) ∙ e)
-    where
-      last : head? (keep f (n ∷ [])) ≡ some s → s ≡ n
-      last = go (f n)
-        where
-          go : (b : Bool) → head? (cond b (n ∷ []) []) ≡ some s → s ≡ n
-          go true h = cc
-          go false h = absurd (Option·none-ne-some s h)
-
-      head-of-two : (xs : List ℕ) → keep f (upto n) ≡ xs → (head? (keep f (upto n)) ≡ some s → ⊥) → head? (xs ++ keep f (n ∷ [])) ≡ some s → ⊥
-      head-of-two [] k lower h = some-kept n r (let z = last h in omega arith) here k
-      head-of-two (x ∷ xs) k lower h = lower (ap head? k ∙ h)
 
 -- ---- the first tail
 
@@ -106,7 +62,7 @@ module _ (f : Frame) (some-state : 0 < f .table .states) (xs : List ℕ) (own : 
   }
 
   pub coder-path : (end : End) (p : TrellisPath) → codedPath (f .table) end (f .tail) xs ≡ some p → IsCoderPath f end xs p
-  unfolding codedPath ringStart tailOf
+  unfolding codedPath tailOf
   coder-path end p e = go end e (coded-is-path (f .table) end (f .bits) (f .tail) xs p some-state own e)
     where
       go : (end : End) → codedPath (f .table) end (f .tail) xs ≡ some p → IsPath (f .table) end (sectionsOf f end) p → IsCoderPath f end xs p
@@ -128,8 +84,7 @@ module _ (f : Frame) (some-state : 0 < f .table .states) (xs : List ℕ) (own : 
           rw (← is) (untailed Open 0 (rw (← is) at path) (λ r l h. omega arith))
       go Ring e path =
           let (s, found, is) = map-eq-some-iff {B = TrellisPath} (λ s. record { start = s; bits = xs }) (ringStart (f .table) xs) .0 e in
-          rw (← is) (untailed Ring s (rw (← is) at path)
-          (λ r l h. first-is-lowest (λ r. eqb (finish (f .table) r xs) r) (f .table .states) s r found l (eq-eqb _ _ (h .ends))))
+          rw (← is) (untailed Ring s (rw (← is) at path) (λ r l h. ring-exactly (f .table) xs s .0 found .lower r l (h .ends)))
 
   -- ---- and no other is
 
@@ -172,7 +127,7 @@ module _ (f : Frame) (some-state : 0 < f .table .states) (xs : List ℕ) (own : 
       let returns : finish (f .table) (p .start) xs ≡ p .start = rw (← bits) at (coder .is-path .ends) in
       let lower : (r : ℕ) → r < p .start → finish (f .table) r xs ≢ r = λ r l e.
       coder .lowest-start r l (record { start = omega (arith, coder .is-path .start); bits = coder .is-path .bits; ends = rw (← bits) e }) in
-      rw (ring-found (f .table) xs (p .start) (coder .is-path .start) returns lower)
+      rw (ring-exactly (f .table) xs (p .start) .1 (record { inside = coder .is-path .start; returns = returns; lower = lower }))
       (ap {B = Option TrellisPath} some (sym (is-same p (p .start) xs refl (sym bits))))
 
   -- what a coder takes is the only path that the statement allows
@@ -182,7 +137,7 @@ module _ (f : Frame) (some-state : 0 < f .table .states) (xs : List ℕ) (own : 
   -- ---- where a coder has none
 
   none-own : (end : End) → codedPath (f .table) end (f .tail) xs ≡ none → SomeOwnPath f end xs → ⊥
-  unfolding codedPath ringStart tailOf
+  unfolding codedPath tailOf
   none-own Zero e h =
       let from = finish (f .table) 0 xs in
       let same = is-same (h .path) 0 (xs ++ h .tail) (h .is-path .ends .0) (h .whole) in
@@ -194,11 +149,7 @@ module _ (f : Frame) (some-state : 0 < f .table .states) (xs : List ℕ) (own : 
       let bits = bits-own Ring (h .path) (h .tail) (h .whole) (h .is-path) refl in
       let returns : finish (f .table) (h .path .start) xs ≡ h .path .start = rw (← bits) at (h .is-path .ends) in
       let missing = map-eq-none-iff {B = TrellisPath} (λ s. record { start = s; bits = xs }) (ringStart (f .table) xs) .0 e in
-      some-kept (λ r. eqb (finish (f .table) r xs) r) (f .table .states) (h .path .start) (h .is-path .start) (eq-eqb _ _ returns) (headless _ missing)
-    where
-      headless : (ys : List ℕ) → head? ys ≡ none → ys ≡ []
-      headless [] e = refl
-      headless (y ∷ ys) e = absurd (Option·some-ne-none y e)
+      ring-none (f .table) xs .0 missing (h .path .start) (h .is-path .start) returns
 
   -- whether a coder finds a path tells whether there is one
   pub own-told : (end : End) → Tells (found (codedPath (f .table) end (f .tail) xs)) (SomeOwnPath f end xs)
