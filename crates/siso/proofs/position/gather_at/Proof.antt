@@ -16,7 +16,7 @@ use Rattle.integers.specs.laws.Linear.{fits-of}
 use Rattle.trellis.specs.declared.Position.{Position}
 use Rattle.trellis.specs.Outcome.{larger, outcomeOf, positionOf, mark, margin}
 use Rattle.siso.specs.laws.Held.{held}
-use Rattle.siso.specs.laws.Told.{raised, markAt, marginAt, extrinsicAt, LeftAt}
+use Rattle.siso.specs.laws.Told.{before, raised, markAt, marginAt, extrinsicAt, LeftAt}
 use Rattle.siso.proofs.position.gather_at.Statement.{statement}
 use Rattle.siso.proofs.position.gather_at.Tie as tie
 
@@ -68,7 +68,7 @@ zero-raised c =
     let x-fits : SFits w32 (getD (start c .args .margins .now) (start c .args .k) (pos 0)) = fits-of (c .before .before .had-arg .given) in
     let had-fits : SFits w32 (c .before .had .result) = fits-of (c .before .had .ok) in
     (rw (toZ-ofZ had-fits, toZ-ofZ (start c .fits .zero)) at (c .larger .ensures))
-    ∙ ap (λ m. larger m (held (start c .args .zero))) (rw (toZ-ofZ x-fits) at (c .before .had .ensures))
+    ∙ ap (λ m. larger m (held (start c .args .zero))) (c .before .had .ensures ∙ ap (before (start c .args .first)) (toZ-ofZ x-fits))
 
 one-raised :
     (c : tie.After-larger2) → let args = start (zeros c) .args in held (c .larger2 .result) ≡ raised (args .first) (getD (args .extrinsics .now) (args .k) (pos 0)) (held (args .one))
@@ -77,7 +77,7 @@ one-raised c =
     let x-fits : SFits w32 (getD (begun .args .extrinsics .now) (begun .args .k) (pos 0)) = fits-of (c .before .before .had-arg2 .given) in
     let had-fits : SFits w32 (c .before .had2 .result) = fits-of (c .before .had2 .ok) in
     (rw (toZ-ofZ had-fits, toZ-ofZ (begun .fits .one)) at (c .larger2 .ensures))
-    ∙ ap (λ m. larger m (held (begun .args .one))) (rw (toZ-ofZ x-fits) at (c .before .had2 .ensures))
+    ∙ ap (λ m. larger m (held (begun .args .one))) (c .before .had2 .ensures ∙ ap (before (begun .args .first)) (toZ-ofZ x-fits))
 
 -- both are words
 zero-fits : (c : tie.After-larger) → SFits w32 (c .larger .result)
