@@ -11,6 +11,14 @@ mod section;
 mod starts;
 mod sweep;
 
+pub use checks::reply;
+pub use metric::NOTHING;
+pub use metric::arrived;
+pub use metric::beginning;
+pub use metric::ending;
+pub use metric::larger;
+pub use metric::reached;
+pub use metric::starts as start_count;
 pub use pass::clear;
 use refusal::Reply;
 use trellis::End;
