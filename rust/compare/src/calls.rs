@@ -72,7 +72,7 @@ fn lone_damaged(d: &mut Draw, end: End, most: Option<usize>) -> Answer {
     lone_decoded(d, &call, lent)
 }
 
-fn lone_decoded(d: &mut Draw, call: &lone::Call, lent: lone::Lent) -> Answer {
+pub fn lone_decoded(d: &mut Draw, call: &lone::Call, lent: lone::Lent) -> Answer {
     let asked = lone::decode(call, lent);
     let t = &call.table;
 
@@ -138,11 +138,18 @@ fn lone_call(d: &mut Draw, end: End, most: Option<usize>) -> (lone::Call, lone::
     };
     let channel = draw::values(d, outputs * sections, 1023);
     let apriori = draw::values(d, sections, 8191);
-    let lent = lone::Lent { marks: sections, margins: sections, extrinsics: sections, work: (sections + 1) * table.states };
-    (lone::Call { table, end, sections, channel, apriori }, lent)
+    let call = lone::Call { table, end, sections, channel, apriori };
+    let lent = lent_for_lone(&call);
+    (call, lent)
 }
 
-fn damage_lone(d: &mut Draw, call: &mut lone::Call, lent: &mut lone::Lent) {
+// Lists of the lengths that the lone decoder asks for.
+pub fn lent_for_lone(call: &lone::Call) -> lone::Lent {
+    let n = call.sections;
+    lone::Lent { marks: n, margins: n, extrinsics: n, work: (n + 1) * call.table.states }
+}
+
+pub fn damage_lone(d: &mut Draw, call: &mut lone::Call, lent: &mut lone::Lent) {
     let sections = call.sections;
     for _ in 0..faults(d) {
         match d.below(14) {
@@ -285,16 +292,20 @@ pub fn encoded(d: &mut Draw, call: &coder::Call, sent_len: usize) -> Answer {
 
 // Received values: any, or those of a coded message with noise, so that iterations have something to find.
 pub fn received(d: &mut Draw, frame: &Frame) -> Vec<i16> {
-    let length = frame.length();
     if d.chance(2) {
-        let message = (0..frame.bits).map(|_| d.below(2) as u8).collect();
-        if let Ok(sent) = coder::encode(&coder::Call { frame: frame.clone(), message }, length) {
+        if let Some(sent) = sent(d, frame) {
             let strength = d.of(&[1, 10, 100, 500]);
             let noise = strength * d.within(0, 4) / 2;
             return sent.iter().map(|&b| ((2 * b as i64 - 1) * strength + d.within(-noise, noise)).clamp(-1023, 1023) as i16).collect();
         }
     }
-    draw::values(d, length, 1023)
+    draw::values(d, frame.length(), 1023)
+}
+
+// A coded message, or none where the coder refuses it.
+pub fn sent(d: &mut Draw, frame: &Frame) -> Option<Vec<u8>> {
+    let message = (0..frame.bits).map(|_| d.below(2) as u8).collect();
+    coder::encode(&coder::Call { frame: frame.clone(), message }, frame.length()).ok()
 }
 
 // Lists of the lengths that the frame decoder asks for.
@@ -306,17 +317,18 @@ pub fn lent_for(frame: &Frame) -> frame_decoder::Lent {
 pub fn decode(d: &mut Draw) -> Answer {
     let iterations = if d.chance(4) { d.size(1, 32) } else { d.size(1, 4) };
     let (frame, faults) = short_frame(d);
-    decode_damaged(d, frame, iterations, faults)
+    let received = received(d, &frame);
+    decode_damaged(d, frame, received, iterations, faults)
 }
 
 pub fn decode_long(d: &mut Draw, index: u64) -> Answer {
     let iterations = d.size(1, 32);
     let (frame, faults) = long_frame(d, index);
-    decode_damaged(d, frame, iterations, faults)
+    let received = received(d, &frame);
+    decode_damaged(d, frame, received, iterations, faults)
 }
 
-fn decode_damaged(d: &mut Draw, frame: Frame, iterations: usize, faults: usize) -> Answer {
-    let received = received(d, &frame);
+pub fn decode_damaged(d: &mut Draw, frame: Frame, received: Vec<i16>, iterations: usize, faults: usize) -> Answer {
     let mut lent = lent_for(&frame);
     let mut call = frame_decoder::Call { frame, received, iterations };
     for _ in 0..faults {

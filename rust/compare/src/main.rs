@@ -1,18 +1,20 @@
 //! Random calls of the static library against the plain receiver: tables of every size, frames short and long, sheets of every K, valid and
 //! damaged calls, each end and each pair of ends; sheets with the answers that document 01 asks for; every table from taps, every polynomial pattern
-//! of up to 200 entries, and frames over such tables. The number returned, the index told with it, every list written, every list read and what
-//! stands beside each list are compared. Exit status 1 on any difference, or where a number that an entry can give, by any end or pair of ends too,
-//! or a line that it must tell, was never given, or where one was given that it must not give.
+//! of up to 200 entries, and frames over such tables; butterflies, and tables close to one. The number returned, the index told with it, every list
+//! written, every list read and what stands beside each list are compared. Exit status 1 on any difference, or where a number that an entry can
+//! give, by any end or pair of ends too, or a line that it must tell, was never given, or where one was given that it must not give.
 //!
 //!     compare                   120,000 short calls and 261 long ones; 20,000 with values out of range; all 680 tables from taps and 20,000
 //!                               damaged calls for one; the patterns of all 2,686,700 polynomials with K up to 200, and 20,000 drawn and damaged
-//!                               ones up to 4,096; 20,000 frames over tables from taps; 1,024 sheets of every K, 515 with a fault in each line,
-//!                               16,383 with each set of loud values of a small sheet, 1,544 with each value of the largest loud, 35,000
-//!                               damaged ones; hints on 40,000 drawn texts and 10,000 damaged sheets
+//!                               ones up to 4,096; 20,000 frames over tables from taps; 60,000 passes and 20,000 frames over butterflies and
+//!                               tables close to one; 1,024 sheets of every K, 515 with a fault in each line, 16,383 with each set of loud
+//!                               values of a small sheet, 1,544 with each value of the largest loud, 35,000 damaged ones; hints on 40,000
+//!                               drawn texts and 10,000 damaged sheets
 //!     compare --long            twenty times the calls
 //!     compare --seed N          other calls; the seed is printed
 //!     compare --only STAGE      one stage
 //!     compare --call STAGE I    one call again, by the index that a difference names
+mod butterflies;
 mod calls;
 mod draw;
 mod ends;
@@ -77,6 +79,8 @@ const STAGES: &[Stage] = &[
     // Two zero ends and as many tail sections as register bits: no frame is refused, so never by 12, 13 or 14.
     Stage { name: "taps-coder", calls: 10_000, run: |d, _| taps::encode(d), numbers: &[0], ..EACH },
     Stage { name: "taps-decoder", calls: 10_000, run: |d, _| taps::decode(d), numbers: &[0], ..EACH },
+    Stage { name: "butterflies", calls: 60_000, run: |d, _| butterflies::lone_decode(d), numbers: LONE, ends: SINGLE, ..EACH },
+    Stage { name: "butterflies-decoder", calls: 20_000, run: |d, _| butterflies::decode(d), numbers: DECODER, ends: PAIRS, ..EACH },
     Stage { name: "sheet-cases", calls: CASES.len() as u64, run: sheets::case, numbers: SHEET, lines: 0..5, loud: 2..5, once: true, ..EACH },
     Stage { name: "sheet", calls: 1_024, run: |d, i| sheets::valid(d, i as usize % 512 + 1), numbers: &[0], ..EACH },
     Stage { name: "sheet-lines", calls: 515, run: |d, i| sheets::faulty(d, i as usize % 515), numbers: &[1], lines: 1..516, ..EACH },

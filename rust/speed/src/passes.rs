@@ -1,6 +1,7 @@
 // Lone passes of the library by end. A ring takes a sweep forwards and one back from every state, where the others start in one alone.
-use crate::code::Code;
-use crate::{house, median, quartiles, Draw};
+use crate::code::{from_taps, house, Code};
+use crate::draw::Draw;
+use crate::stats::{median, ratio};
 use std::hint::black_box;
 use std::time::Instant;
 use turbo::{raw, End};
@@ -15,13 +16,6 @@ struct Lists {
     margins: Vec<i32>,
     extrinsics: Vec<i32>,
     work: Vec<i32>,
-}
-
-fn from_taps(memory: usize, feedback: u32, parity: u32) -> Code {
-    let states = 1 << memory;
-    let (mut next, mut words) = (vec![0; 2 * states], vec![0; 2 * states]);
-    assert_eq!(raw::taps_table(memory, feedback, parity, &mut next, &mut words), 0);
-    Code { states, next, words }
 }
 
 #[inline(never)]
@@ -47,11 +41,9 @@ fn measure(name: &str, code: &Code, rounds: usize) {
         }
     }
     let [zero, open, ring] = &times;
-    let to_zero = |times: &[f64]| -> Vec<f64> { times.iter().zip(zero).map(|(x, y)| x / y).collect() };
-    println!("{name}: microseconds a pass: zero {:.1}, open {:.1}, ring {:.1}", median(zero.clone()), median(open.clone()), median(ring.clone()));
+    println!("{name}: microseconds a pass: zero {:.1}, open {:.1}, ring {:.1}", median(zero), median(open), median(ring));
     for (name, times) in [("open", open), ("ring", ring)] {
-        let (low, high) = quartiles(to_zero(times));
-        println!("  {name} / zero: {:.2} (middle half {low:.2} to {high:.2})", median(to_zero(times)));
+        println!("  {name} / zero: {}", ratio(times, zero));
     }
 }
 
