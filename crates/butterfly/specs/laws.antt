@@ -1,3 +1,4 @@
 pub mod Halves
 pub mod Wings
 pub mod Metrics
+pub mod Tables

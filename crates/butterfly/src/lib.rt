@@ -1,3 +1,4 @@
 // The lone decoder once more, faster over a table that is a butterfly.
 mod choice;
 mod step;
+mod wings;
