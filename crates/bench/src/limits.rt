@@ -25,7 +25,7 @@ fn with_sections(n: usize) -> usize {
     let mut margins = [0i32; 4096];
     let mut extrinsics = [0i32; 4096];
     let mut work = [0i32; 16388];
-    reply::number(siso::decode(
+    reply::number(butterfly::decode(
         4,
         2,
         &next,

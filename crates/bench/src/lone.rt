@@ -84,7 +84,7 @@ pub fn called(
     let mut margins = [outcomes::OLD_MARGIN; 12];
     let mut extrinsics = [outcomes::OLD_EXTRINSIC; 12];
     let mut work = [OLD_WORK; 208];
-    let r = siso::decode(
+    let r = butterfly::decode(
         states,
         outputs,
         next,

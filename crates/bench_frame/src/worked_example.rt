@@ -81,7 +81,7 @@ fn print_pass_1() {
     let mut margins = [0; 9];
     let mut extrinsics = [0; 9];
     let mut work = [0; 40];
-    let r = siso::decode(
+    let r = butterfly::decode(
         4,
         2,
         &next,

@@ -67,7 +67,7 @@ pub extern "C" fn turbo_lone_decode(
     let Ending::Known(by) = end_of(end) else {
         return tell(Reply::Refused(Refusal::Shape), index);
     };
-    let reply = siso::decode(
+    let reply = butterfly::decode(
         states,
         outputs,
         next,
