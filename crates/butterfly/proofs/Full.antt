@@ -10,8 +10,8 @@ use native.Mathlib.Nat.{add-zero}
 use native.Mathlib.Omega.{arith}
 use lib.IntN.{ℤ}
 use Rattle.lists.specs.Lists.{found}
-use Rattle.trellis.specs.Table.{Table, nextState}
-use Rattle.trellis.specs.Path.{Values, branchMetric}
+use Rattle.trellis.specs.Table.{Table}
+use Rattle.trellis.specs.Path.{Values}
 use Rattle.trellis.specs.Outcome.{larger}
 use Rattle.trellis.specs.laws.MaxPlus.{plus}
 use Rattle.trellis.specs.laws.Sweeps.{Row, advance, retreat, forward, backward}

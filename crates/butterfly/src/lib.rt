@@ -1,8 +1,10 @@
-// The lone decoder, faster: a table that is a butterfly goes by wings of two states, and any other as the crate below has it. What it answers is the same.
+// The lone decoder, faster: a pass over a table that is a butterfly goes by wings of two states. Every other call, a refused one too, is siso's. What is
+// answered is the same.
 ghost use mathlib.Core.Path.{_≡_};
 ghost use Rattle.siso.specs.Decode.{decode as decoded};
 ghost use Rattle.siso.specs.Lent.{callOf, lentOf, resultOf};
 
+mod checks;
 mod choice;
 mod pass;
 mod position;
@@ -35,7 +37,19 @@ pub fn decode(
         (now (channel .entry)) (now (apriori .entry)))
         (lentOf (now (marks .entry)) (now (margins .entry)) (now (extrinsics .entry)) (now (work .entry))) ⌝ }
 {
-    if !wings::is_butterfly(states, outputs, next, words) {
+    if !checks::takes(
+        states,
+        outputs,
+        next,
+        words,
+        sections,
+        channel,
+        apriori,
+        marks.len(),
+        margins.len(),
+        extrinsics.len(),
+        work.len(),
+    ) {
         return siso::decode(
             states,
             outputs,
@@ -50,22 +64,6 @@ pub fn decode(
             extrinsics,
             work,
         );
-    }
-    let reply = siso::reply(
-        states,
-        outputs,
-        next,
-        words,
-        sections,
-        channel,
-        apriori,
-        marks.len(),
-        margins.len(),
-        extrinsics.len(),
-        work.len(),
-    );
-    if let Reply::Refused(_) = reply {
-        return reply;
     }
     pass::run(
         states,

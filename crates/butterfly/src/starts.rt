@@ -1,7 +1,7 @@
 // The sweeps over all sections, from one state to start in after another.
 ghost use mathlib.Core.Bool.{true, false, _&&_};
 ghost use mathlib.Core.Path.{_≡_};
-ghost use Prim.Native.Nat.{ℕ, _+_, _*_, _<_, _≤_};
+ghost use Prim.Native.Nat.{_+_, _*_, _<_, _≤_};
 ghost use lib.ListN.{length};
 ghost use Rattle.trellis.specs.Table.{Table};
 ghost use Rattle.trellis.specs.laws.Sweeps.{starts as startsOf};

@@ -11,7 +11,6 @@ mod section;
 mod starts;
 mod sweep;
 
-pub use checks::reply;
 pub use metric::NOTHING;
 pub use metric::arrived;
 pub use metric::beginning;

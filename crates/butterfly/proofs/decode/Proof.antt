@@ -1,5 +1,4 @@
--- `butterfly::decode` meets its contract: a table that is no butterfly is decoded by the crate below; of any other a call that the checks refuse leaves everything
--- as it was, and any other call is a pass.
+-- `butterfly::decode` meets its contract: a call that is taken passes every check and is a pass over a butterfly, and any other is the decoder's for any table.
 -- Assumes nothing.
 use borrow.Author.Needs.{needs}
 use borrow.Author.Tests.{not-false}
@@ -8,16 +7,16 @@ use mathlib.Core.List.{List}
 use Prim.Native.Nat.{ℕ}
 use Rattle.trellis.specs.Table.{tableOf}
 use Rattle.trellis.specs.Path.{Values}
-use Rattle.siso.specs.Decode.{Call, Lent, checked, walked, settled}
+use Rattle.siso.specs.Decode.{Call, Lent, walked, settled}
 use Rattle.siso.specs.Lent.{callOf, lentOf}
-use Rattle.siso.specs.laws.Accepted.{accepted}
+use Rattle.siso.specs.laws.Accepted.{Accepted, accepts}
 use Rattle.siso.specs.laws.Pass.{Pass}
-use Rattle.siso.specs.laws.Settled.{decode-refused, decode-walked}
+use Rattle.siso.specs.laws.Settled.{decode-walked}
 use Rattle.butterfly.specs.laws.Tables.{IsButterfly}
 use Rattle.butterfly.proofs.decode.Statement.{statement}
 use Rattle.butterfly.proofs.decode.Tie as tie
 
--- ---- the call, and what the checks reply
+-- ---- the call
 
 abbrev call : tie.Start → Call
 call c =
@@ -34,19 +33,6 @@ call c =
 abbrev lent : tie.Start → Lent
 lent c = lentOf (c .args .marks .now) (c .args .margins .now) (c .args .extrinsics .now) (c .args .work .now)
 
-abbrev asked : tie.After-reply → tie.After-is-butterfly
-asked c = c .before .before
-
-abbrev start : tie.After-reply → tie.Start
-start c = asked c .before .before .before .before
-
-told : (c : tie.After-reply) → c .reply .result ≡ checked (call (start c)) (lent (start c))
-told c = c .reply .ensures (start c .args .end) (lent (start c)) (record { marks-sized = refl; margins-sized = refl; extrinsics-sized = refl; work-sized = refl })
-
-is :
-    (c : tie.After-reply) → let args = start c .args in IsButterfly (args .states) (args .outputs) (args .next .now) (args .words .now)
-is c = asked c .is-butterfly .ensures (not-false _ (c .before .if1 .left))
-
 -- ---- two outputs
 
 butterfly-as : {states outputs : ℕ} {next words : List ℕ} → outputs ≡ 2 → IsButterfly states outputs next words → IsButterfly states 2 next words
@@ -57,10 +43,10 @@ pass-as :
     → Pass (tableOf states 2 next words) n v
 pass-as two p = rw two at p
 
--- ---- the needs
+-- ---- a call that is not taken
 
-is-butterfly-requires : tie.Need-is-butterfly-requires
-is-butterfly-requires c κs = search needs
+takes-requires : tie.Need-takes-requires
+takes-requires c κs = search needs
 
 decode-requires : tie.Need-decode-requires
 decode-requires c κs = search needs
@@ -80,25 +66,26 @@ same-length-4 c = search needs
 returns : tie.Need-returns
 returns c = c .before .before .before .before .before .decode .ensures
 
-reply-requires : tie.Need-reply-requires
-reply-requires c κs = search needs
+-- ---- one that is
 
-enum-told : tie.Need-enum-told
-enum-told c = search needs
+module _ (c : tie.Else1) where
+  abbrev start : tie.Start
+  start = c .before .before .before .before .before
 
-returns-2 : tie.Need-returns-2
-returns-2 c = rw (c .enum-told .given .1) (decode-refused _ _ _ (sym (told (c .before .before)) ∙ c .enum-told .given .1))
+  is : IsButterfly (start .args .states) (start .args .outputs) (start .args .next .now) (start .args .words .now)
+  is = c .before .takes .ensures (not-false _ (c .if1 .left)) .0
 
-enum-told-2 : tie.Need-enum-told-2
-enum-told-2 c = search needs
+  taken : Accepted (call start) (lent start)
+  taken =
+      c .before .takes .ensures (not-false _ (c .if1 .left)) .1 (start .args .end) (lent start)
+      (record { marks-sized = refl; margins-sized = refl; extrinsics-sized = refl; work-sized = refl })
 
 run-requires : tie.Need-run-requires
 run-requires c κs =
-    let passed = c .before .before .before .before in
-    let r = passed .before .before in
-    let a = accepted _ _ (sym (told r) ∙ passed .enum-told2 .given .1) in
-    let two = is r .two-outputs in
-    (butterfly-as two (is r), (pass-as two (a .pass), (a .work-long, (a .marks-long, (a .margins-long, a .extrinsics-long)))))
+    let branch = c .before .before .before .before in
+    let a = taken branch in
+    let two = is branch .two-outputs in
+    (butterfly-as two (is branch), (pass-as two (a .pass), (a .work-long, (a .marks-long, (a .margins-long, a .extrinsics-long)))))
 
 same-length-5 : tie.Need-same-length-5
 same-length-5 c = search needs
@@ -112,39 +99,34 @@ same-length-7 c = search needs
 same-length-8 : tie.Need-same-length-8
 same-length-8 c = search needs
 
-returns-3 : tie.Need-returns-3
-returns-3 c =
+returns-2 : tie.Need-returns-2
+returns-2 c =
     let ran = c .before .before .before .before .before in
-    let passed = ran .before .before .before .before .before in
-    let r = passed .before .before in
-    let args = start r .args in
-    let two = is r .two-outputs in
+    let branch = ran .before .before .before .before .before in
+    let s = start branch in
+    let args = s .args in
     ran .run .ensures
     ∙ ap
     (λ outputs.
     let asked = callOf (args .states) outputs (args .next .now) (args .words .now) (args .end) (args .sections) (args .channel .now) (args .apriori .now) in
-    settled (walked asked) asked (lent (start r)))
-    (sym two)
-    ∙ decode-walked _ _ (sym (told r) ∙ passed .enum-told2 .given .1)
+    settled (walked asked) asked (lent s))
+    (sym (is branch .two-outputs))
+    ∙ decode-walked _ _ (accepts _ _ (taken branch))
 
 pub decode-spec : {M : Type 1} → statement M
 decode-spec =
     tie.close
     (tie.spec
-    is-butterfly-requires
+    takes-requires
     decode-requires
     same-length
     same-length-2
     same-length-3
     same-length-4
     returns
-    reply-requires
-    enum-told
-    returns-2
-    enum-told-2
     run-requires
     same-length-5
     same-length-6
     same-length-7
     same-length-8
-    returns-3)
+    returns-2)

@@ -1,8 +1,6 @@
 -- `choice::step_backwards` is the step that is for the table: the number of wings is the one that it is called with, and the signs are the same.
 -- Assumes nothing.
-use borrow.Author.Needs.{needs}
 use borrow.Author.Tests.{not-false}
-use native.Mathlib.Omega.{arith}
 use mathlib.Core.Path.{_≡_}
 use mathlib.Core.Bool.{true, false, false≢true}
 use Rattle.integers.specs.laws.Linear.{plain}

@@ -2,11 +2,10 @@
 -- reached.
 -- Assumes nothing.
 use borrow.Author.Needs.{needs}
-use mathlib.Core.Path.{_≡_, refl, sym, _∙_}
+use mathlib.Core.Path.{_≡_, sym, _∙_}
 use mathlib.Core.Bool.{false≢true}
-use Prim.Native.Nat.{ℕ, _+_, _≤_}
+use Prim.Native.Nat.{ℕ, _≤_}
 use native.Mathlib.Omega.{arith}
-use lib.ListN.{length}
 use Rattle.trellis.specs.Table.{Table}
 use Rattle.trellis.specs.Path.{Values}
 use Rattle.trellis.specs.laws.Sweeps.{boundary, forward}

@@ -24,7 +24,7 @@ use Rattle.trellis.specs.laws.Sweeps.{Row, retreat, passing}
 use Rattle.siso.specs.laws.Held.{held, row, rowAt}
 use Rattle.siso.proofs.Held.{found-some}
 use Rattle.butterfly.specs.laws.Halves.{over-halves}
-use Rattle.butterfly.specs.laws.Metrics.{Wings, gainAt, straightAt, Backed, near-before, far-before, zero-through, one-through}
+use Rattle.butterfly.specs.laws.Metrics.{Wings, gainAt, straightAt, near-before, far-before, zero-through, one-through}
 use Rattle.butterfly.proofs.Entries.{near-more, far-more, both-halves, over-more, held-cond}
 use Rattle.butterfly.proofs.Sums.{small-fits, zero-minus, opposite-small, kept, gain-small}
 use Rattle.butterfly.proofs.step.backwards.Statement.{statement}

@@ -1,8 +1,6 @@
 -- `step::either` returns the larger of two metrics by branches of opposite metrics.
 -- Assumes nothing.
-use mathlib.Core.Path.{_≡_, refl, ap₂, _∙_}
-use mathlib.Core.Bool.{true}
-use mathlib.Core.Option.{some}
+use mathlib.Core.Path.{_≡_, ap₂, _∙_}
 use native.Mathlib.Omega.{arith}
 use borrow.Author.Needs.{needs}
 use lib.IntN.{ℤ, pos, negℤ, _-ℤ_}
@@ -11,11 +9,9 @@ use mir.Syntax.{w32}
 use mir.Val.{SFits, toZ, ofZ}
 use Rattle.integers.specs.laws.Bounds.{Within}
 use Rattle.integers.specs.laws.Laws.{within-more}
-use Rattle.integers.specs.laws.Linear.{plain, fits-of}
+use Rattle.integers.specs.laws.Linear.{plain}
 use Rattle.trellis.specs.Outcome.{larger}
 use Rattle.trellis.specs.laws.MaxPlus.{plus}
-use Rattle.trellis.specs.laws.Signs.{signed-within}
-use Rattle.siso.specs.laws.Held.{held}
 use Rattle.butterfly.proofs.Sums.{small-fits, zero-minus, opposite-small, kept}
 use Rattle.butterfly.proofs.step.either.Statement.{statement}
 use Rattle.butterfly.proofs.step.either.Tie as tie
