@@ -13,8 +13,8 @@
  * The calls keep nothing and use no static data, so several threads may call at once, each with lists of its own.
  *
  * Stack. Measured on x86-64 in a thread that makes one call, whatever the lists' lengths, in bytes and rounded up: turbo_sheet 149,000,
- * turbo_decode 97,000, turbo_polynomial_pattern 25,000, turbo_encode 18,000, turbo_lone_decode 6,200, the others 6,000; some 4,500 of each are the thread's own. A stack must
- * have room for that; the proofs take it to be large enough.
+ * turbo_decode 97,000, turbo_polynomial_pattern 25,000, turbo_encode 18,000, turbo_lone_decode 6,200, the others 6,000; some 4,500 of each
+ * are the thread's own. A stack must have room for that; the proofs take it to be large enough.
  *
  * Table. S states (1..16) and n outputs (1..4). The branch of state s and input bit b stands at 2*s + b of `next` (the next state, below S) and
  * of `words` (below 2^n; output l, counted from 1, is bit l-1). A table is systematic when output 1 of every branch is its input bit.
