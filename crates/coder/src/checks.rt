@@ -1,16 +1,17 @@
 // The checks of a call, in the order of their numbers.
 ghost use mathlib.Core.Bool.{not, _&&_, _||_};
+ghost use mathlib.Core.List.{[], _∷_};
 ghost use mathlib.Core.Path.{_≡_};
 ghost use Prim.Native.Nat.{_+_};
 ghost use lib.Dec.{eqb, leb, ltb};
 ghost use lib.ListN.{length};
 ghost use Rattle.lists.specs.Lists.{every};
 ghost use Rattle.refusal.specs.declared.Refusal.the-variants.{Bit, Pattern, Mask, Coder};
-ghost use Rattle.refusal.specs.Refusals.{check, _then_};
+ghost use Rattle.refusal.specs.Refusals.{_unless_, firstOf};
 ghost use Rattle.trellis.specs.Table.{tableOf};
 ghost use Rattle.frame.specs.Frame.{tailOf, goodSizes, goodMasks, goodCoder, lengthUnder};
 ghost use Rattle.frame.specs.Interleaver.{permutes};
-ghost use Rattle.coder.specs.Coder.{encodeChecked};
+ghost use Rattle.coder.specs.Coder.{encodeLentChecks};
 ghost use Rattle.coder.specs.Lent.{encodeOf};
 use refusal::Refusal;
 use refusal::Reply;
@@ -54,11 +55,13 @@ fn entries_reply(
     masks: &[u8],
 ) -> Reply
     ensures { λ r. ⌜
-        r ≡ (check (every (λ b. ltb b 2) (now (message .entry))) Bit
-        then check (leb (length (now (pattern .entry))) 4096
-        && permutes (length (now (pattern .entry))) (now (pattern .entry))) Pattern
-        then check (goodMasks (now (masks .entry))) Mask
-        then check (goodCoder (tableOf states outputs (now (next .entry)) (now (words .entry)))) Coder) ⌝ }
+        r ≡ firstOf
+        (Bit unless every (λ b. ltb b 2) (now (message .entry))
+        ∷ Pattern unless (leb (length (now (pattern .entry))) 4096
+        && permutes (length (now (pattern .entry))) (now (pattern .entry)))
+        ∷ Mask unless goodMasks (now (masks .entry))
+        ∷ Coder unless goodCoder (tableOf states outputs (now (next .entry)) (now (words .entry)))
+        ∷ []) ⌝ }
 {
     let message_reply = refusal::check(trellis::all_below(message, 2), Refusal::Bit);
     let pattern_reply = refusal::check(frame::permutes(pattern), Refusal::Pattern);
@@ -84,10 +87,11 @@ pub fn encode_reply(
     sent: &[u8],
 ) -> Reply
     ensures { λ r. ⌜
-        r ≡ encodeChecked
+        r ≡ firstOf
+        (encodeLentChecks
         (encodeOf states outputs (now (next .entry)) (now (words .entry)) end1 end2 bits tail
         (now (message .entry)) (now (pattern .entry)) (now (masks .entry)))
-        (now (sent .entry)) ⌝ }
+        (now (sent .entry))) ⌝ }
 {
     let table = trellis::table_reply(states, outputs, next, words);
     if let Reply::Refused(_) = table {

@@ -5,8 +5,7 @@ ghost use lib.ListN.{length};
 ghost use Rattle.trellis.specs.declared.End.the-variants.{Zero, Ring};
 ghost use Rattle.trellis.specs.Best.{IsBits};
 ghost use Rattle.frame.specs.Frame.{tailOf};
-ghost use Rattle.coder.specs.Coder.{tailed, encodeSettled};
-ghost use Rattle.coder.specs.laws.Coding.{Coded};
+ghost use Rattle.coder.specs.laws.Coding.{Coded, coded};
 ghost use Rattle.frame.specs.Interleaver.{interleave};
 ghost use Rattle.frame.specs.laws.Interleaving.{Permutes};
 ghost use Rattle.coder.specs.laws.Lent.{readCall, Codable};
@@ -171,9 +170,7 @@ pub fn run(
         (readCall (now next) (now words) end1 end2 bits tail (now message) (now pattern) (now masks) .frame)
         (now message) (now sent) ⌝ }
     ensures { λ r. ⌜ encodedOf r (now (sent .exit))
-        ≡ encodeSettled
-        (tailed (readCall (now (next .entry)) (now (words .entry)) end1 end2 bits tail
-        (now (message .entry)) (now (pattern .entry)) (now (masks .entry))))
+        ≡ coded
         (readCall (now (next .entry)) (now (words .entry)) end1 end2 bits tail
         (now (message .entry)) (now (pattern .entry)) (now (masks .entry)))
         (now (sent .entry)) ⌝ }

@@ -1,14 +1,14 @@
 -- Patterns given by a polynomial (document 02, request 1): entry i is (f1·i + f2·i²) mod K; and the whole result of building one into a list.
 -- Assumes nothing.
 use mathlib.Core.Bool.{Bool, _&&_}
-use mathlib.Core.List.{List}
+use mathlib.Core.List.{List, [], _∷_, _++_}
 use Prim.Native.Nat.{ℕ, _+_, _*_, _%_, _^_}
 use lib.Dec.{eqb, ltb}
 use lib.ListN.{length}
 use Rattle.lists.specs.Lists.{listed}
 use Rattle.refusal.specs.declared.Refusal.the-variants.{Polynomial, Length, Lists, Pattern}
 use Rattle.refusal.specs.declared.Reply.{Reply}
-use Rattle.refusal.specs.Refusals.{check, _then_, after}
+use Rattle.refusal.specs.Refusals.{Check, _unless_, firstOf, after}
 use Rattle.frame.specs.Frame.{goodSizes}
 use Rattle.frame.specs.Interleaver.{permutes}
 
@@ -38,15 +38,16 @@ unfoldable pub bitsFit : PatternCall → Bool
 bitsFit c = goodSizes (c .bits) 0
 
 -- the checks before the entries are looked at; `long` is the length of the list lent
-unfoldable pub sizesReply : PatternCall → ℕ → Reply
-sizesReply c long =
-    check (coefficientsFit c) Polynomial
-    then check (bitsFit c) Length
-    then check (eqb long (c .bits)) Lists
+unfoldable pub sizeChecks : PatternCall → ℕ → List Check
+sizeChecks c long = Polynomial unless coefficientsFit c ∷ Length unless bitsFit c ∷ Lists unless eqb long (c .bits) ∷ []
 
--- the first that applies, or done: the entries are each of 0..K-1 exactly once (not so: 8)
-unfoldable pub patternReply : PatternCall → ℕ → Reply
-patternReply c long = sizesReply c long then check (permutes (c .bits) (entries c)) Pattern
+-- and that the entries are each of 0..K-1 exactly once
+unfoldable pub entryChecks : PatternCall → List Check
+entryChecks c = Pattern unless permutes (c .bits) (entries c) ∷ []
+
+-- all checks of a call
+unfoldable pub patternChecks : PatternCall → ℕ → List Check
+patternChecks c long = sizeChecks c long ++ entryChecks c
 
 -- the reply, and the list as it is left
 pub record PatternResult : Type 0 where
@@ -57,4 +58,4 @@ abbrev pub patternResultOf : Reply → List ℕ → PatternResult
 patternResultOf r pattern = record { reply = r; pattern = pattern }
 
 unfoldable pub patternBuilt : PatternCall → List ℕ → PatternResult
-patternBuilt c pattern = let r = patternReply c (length pattern) in patternResultOf r (after r (entries c) pattern)
+patternBuilt c pattern = let r = firstOf (patternChecks c (length pattern)) in patternResultOf r (after r (entries c) pattern)

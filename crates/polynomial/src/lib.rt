@@ -2,8 +2,9 @@
 ghost use mathlib.Core.Path.{_≡_};
 ghost use Prim.Native.Nat.{_<_};
 ghost use lib.ListN.{length};
+ghost use Rattle.refusal.specs.Refusals.{firstOf};
 ghost use Rattle.frame.specs.Interleaver.{permutes};
-ghost use Rattle.polynomial.specs.Polynomial.{entryAt, entries, coefficientsFit, sizesReply, patternBuilt};
+ghost use Rattle.polynomial.specs.Polynomial.{entryAt, entries, coefficientsFit, sizeChecks, patternBuilt};
 ghost use Rattle.polynomial.specs.Polynomial.{patternCallOf, patternResultOf};
 ghost use Rattle.polynomial.specs.laws.Making.{Small};
 use refusal::Refusal;
@@ -42,7 +43,7 @@ fn coefficients_fit(bits: usize, f1: usize, f2: usize) -> bool
 
 // 15, 4, then 5.
 fn sizes_reply(bits: usize, f1: usize, f2: usize, long: usize) -> Reply
-    ensures { λ r. ⌜ r ≡ sizesReply (patternCallOf bits f1 f2) long ⌝ }
+    ensures { λ r. ⌜ r ≡ firstOf (sizeChecks (patternCallOf bits f1 f2) long) ⌝ }
 {
     let coefficients = refusal::check(coefficients_fit(bits, f1, f2), Refusal::Polynomial);
     let bits_reply = refusal::check(frame::sizes_fit(bits, 0), Refusal::Length);

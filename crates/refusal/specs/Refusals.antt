@@ -1,8 +1,8 @@
--- Refusals: the number and the place of each, the first that applies, and what a reply leaves of the lists that were lent
+-- Refusals: the number and the place of each, checks in turn and the first that fails, and what a reply leaves of the lists that were lent
 -- (document 01, "Refused frames and calls"; document 02 adds 15, which stands after 2, and 16, which stands after 6).
 -- Assumes nothing.
 use mathlib.Core.Bool.{Bool, true, false, cond, _||_}
-use mathlib.Core.List.{List}
+use mathlib.Core.List.{List, [], _∷_}
 use Prim.Native.Nat.{ℕ}
 use lib.Dec.{eqb}
 use lib.IntN.{ℤ, pos}
@@ -59,6 +59,20 @@ infixr 20 _then_
 unfoldable pub _then_ : Reply → Reply → Reply
 Done then y = y
 (Refused r) then y = Refused r
+
+-- a check of an entry: its refusal, and the test that keeps it off
+pub record Check : Type 0 where
+  pub refusal : Refusal
+  pub holds : Bool
+
+infix 75 _unless_
+abbrev pub _unless_ : Refusal → Bool → Check
+r unless b = record { refusal = r; holds = b }
+
+-- the reply to a list of checks, in their order: the refusal of the first that fails, or done
+unfoldable pub firstOf : List Check → Reply
+firstOf [] = Done
+firstOf (c ∷ cs) = check (c .holds) (c .refusal) then firstOf cs
 
 -- a result list: the new one where the call is done, and as it was where it is refused
 unfoldable pub after : {A : Type 0} → Reply → A → A → A

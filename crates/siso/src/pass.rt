@@ -4,9 +4,9 @@ ghost use Prim.Native.Nat.{_+_, _*_};
 ghost use lib.IntN.{pos};
 ghost use lib.ListN.{length, replicate};
 ghost use Rattle.trellis.specs.Table.{tableOf};
-ghost use Rattle.siso.specs.Decode.{walked, settled};
 ghost use Rattle.siso.specs.Lent.{valuesOf, callOf, lentOf, resultOf};
 ghost use Rattle.siso.specs.laws.Pass.{Pass};
+ghost use Rattle.siso.specs.laws.Settled.{walked};
 use crate::starts::gather_all;
 use refusal::Refusal;
 use refusal::Reply;
@@ -47,10 +47,7 @@ pub fn run(
     requires { ⌜ length (now extrinsics) ≡ sections ⌝ }
     ensures { λ r. ⌜
         resultOf r (now (marks .exit)) (now (margins .exit)) (now (extrinsics .exit)) (now (work .exit))
-        ≡ settled
-        (walked
-        (callOf states outputs (now (next .entry)) (now (words .entry)) end sections
-        (now (channel .entry)) (now (apriori .entry))))
+        ≡ walked
         (callOf states outputs (now (next .entry)) (now (words .entry)) end sections
         (now (channel .entry)) (now (apriori .entry)))
         (lentOf (now (marks .entry)) (now (margins .entry)) (now (extrinsics .entry)) (now (work .entry))) ⌝ }

@@ -1,13 +1,13 @@
 -- The whole result of building a table from taps into two lists that are lent (document 02, request 1).
 -- Assumes nothing.
 use mathlib.Core.Bool.{Bool, not, _&&_, _||_}
-use mathlib.Core.List.{List}
+use mathlib.Core.List.{List, [], _∷_}
 use Prim.Native.Nat.{ℕ, _+_, _*_, _%_, _^_}
 use lib.Dec.{eqb, leb, ltb}
 use lib.ListN.{length}
 use Rattle.refusal.specs.declared.Refusal.the-variants.{Shape, Polynomial}
 use Rattle.refusal.specs.declared.Reply.{Reply}
-use Rattle.refusal.specs.Refusals.{check, _then_, after}
+use Rattle.refusal.specs.Refusals.{Check, _unless_, firstOf, after}
 use Rattle.taps.specs.Taps.{tapsTable}
 
 -- memory, feedback number and parity number
@@ -40,11 +40,12 @@ tapsListsFit m next words = not (memoryFits m) || (eqb next (2 * 2 ^ m) && eqb w
 unfoldable pub tapsFit : ℕ → ℕ → ℕ → Bool
 tapsFit m feedback parity = memoryFits m && (ltb feedback (2 ^ (m + 1)) && ltb parity (2 ^ (m + 1)) && eqb (feedback % 2) 1)
 
--- the first that applies, or done
-unfoldable pub tapsReply : TapsCall → TapsLent → Reply
-tapsReply c l =
-    check (tapsListsFit (c .memory) (length (l .next)) (length (l .words))) Shape
-    then check (tapsFit (c .memory) (c .feedback) (c .parity)) Polynomial
+-- the checks of a call, in their order
+unfoldable pub tapsChecks : TapsCall → TapsLent → List Check
+tapsChecks c l =
+    Shape unless tapsListsFit (c .memory) (length (l .next)) (length (l .words))
+    ∷ Polynomial unless tapsFit (c .memory) (c .feedback) (c .parity)
+    ∷ []
 
 -- the reply, and both lists as they are left
 pub record TapsResult : Type 0 where
@@ -56,6 +57,6 @@ tapsResultOf r next words = record { reply = r; lists = tapsLentOf next words }
 
 unfoldable pub tapsBuilt : TapsCall → TapsLent → TapsResult
 tapsBuilt c l =
-    let r = tapsReply c l in
+    let r = firstOf (tapsChecks c l) in
     let t = tapsTable (c .memory) (c .feedback) (c .parity) in
     tapsResultOf r (after r (t .next) (l .next)) (after r (t .words) (l .words))

@@ -1,7 +1,8 @@
 // The checks of a call, by the numbers and by the lists' lengths.
+ghost use mathlib.Core.List.{[], _∷_};
 ghost use mathlib.Core.Path.{_≡_};
 ghost use Rattle.refusal.specs.declared.Refusal.the-variants.{Shape, Polynomial};
-ghost use Rattle.refusal.specs.Refusals.{check, _then_};
+ghost use Rattle.refusal.specs.Refusals.{_unless_, firstOf};
 ghost use Rattle.taps.specs.Build.{memoryFits, tapsListsFit, tapsFit};
 use refusal::Refusal;
 use refusal::Reply;
@@ -49,8 +50,10 @@ fn taps_fit(memory: usize, feedback: u32, parity: u32) -> bool
 // 2, then 15.
 pub fn taps_reply(memory: usize, feedback: u32, parity: u32, next: usize, words: usize) -> Reply
     ensures { λ r. ⌜
-        r ≡ (check (tapsListsFit memory next words) Shape
-        then check (tapsFit memory feedback parity) Polynomial) ⌝ }
+        r ≡ firstOf
+        (Shape unless tapsListsFit memory next words
+        ∷ Polynomial unless tapsFit memory feedback parity
+        ∷ []) ⌝ }
 {
     let lists = refusal::check(lists_fit(memory, next, words), Refusal::Shape);
     let taps = refusal::check(taps_fit(memory, feedback, parity), Refusal::Polynomial);

@@ -10,8 +10,7 @@ use lib.ListN.{length, getD}
 use Rattle.integers.specs.Integers.{inside}
 use Rattle.lists.specs.Lists.{every, firstFailing}
 use Rattle.refusal.specs.declared.Refusal.the-variants.{Value, Apriori}
-use Rattle.refusal.specs.declared.Reply.{Reply}
-use Rattle.refusal.specs.Refusals.{check}
+use Rattle.refusal.specs.Refusals.{Check, _unless_}
 
 -- channel values are in -1,023..1,023, a-priori values in -8,191..8,191, and a pass has at most 4,096 sections
 abbrev pub channelLimit : ℕ
@@ -39,11 +38,11 @@ unfoldable pub firstOutside : ℕ → List ℤ → ℕ
 firstOutside limit xs = firstFailing (inside limit) xs
 
 -- 6 and 16, each with that index
-abbrev pub channelReply : List ℤ → Reply
-channelReply xs = check (channelFits xs) (Value (firstOutside channelLimit xs))
+abbrev pub channelCheck : List ℤ → Check
+channelCheck xs = Value (firstOutside channelLimit xs) unless channelFits xs
 
-abbrev pub aprioriReply : List ℤ → Reply
-aprioriReply xs = check (aprioriFits xs) (Apriori (firstOutside aprioriLimit xs))
+abbrev pub aprioriCheck : List ℤ → Check
+aprioriCheck xs = Apriori (firstOutside aprioriLimit xs) unless aprioriFits xs
 
 -- what the index means, said without a search: the value there is outside the limit, and none before it is
 pub record IsFirstOutside (limit : ℕ) (xs : List ℤ) (i : ℕ) : Type 0 where

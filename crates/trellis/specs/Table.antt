@@ -1,11 +1,13 @@
 -- A table and its branches (document 01, "Table, path and metric").
 -- Assumes nothing.
 use mathlib.Core.Bool.{Bool, _&&_}
-use mathlib.Core.List.{List}
+use mathlib.Core.List.{List, [], _∷_}
 use Prim.Native.Nat.{ℕ, _+_, _*_, _/_, _%_, _^_}
 use lib.Dec.{eqb, leb, ltb}
 use lib.ListN.{length, getD}
 use Rattle.lists.specs.Lists.{every, upto}
+use Rattle.refusal.specs.declared.Refusal.the-variants.{Shape, Branch}
+use Rattle.refusal.specs.Refusals.{Check, _unless_}
 
 -- a table: S states, n outputs, and the lists of next states and words, which hold the branch of state s and bit b at 2·s + b
 pub record Table : Type 0 where
@@ -43,3 +45,7 @@ shaped t =
 -- every next state is below S, and every word below 2^n (not so: 3)
 unfoldable pub branched : Table → Bool
 branched t = every (λ s. ltb s (t .states)) (t .next) && every (λ w. ltb w (2 ^ t .outputs)) (t .words)
+
+-- the checks of a table, which come before all others
+unfoldable pub tableChecks : Table → List Check
+tableChecks t = Shape unless shaped t ∷ Branch unless branched t ∷ []

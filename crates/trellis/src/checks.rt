@@ -6,9 +6,8 @@ ghost use lib.Dec.{ltb};
 ghost use lib.IntN.{natAbs};
 ghost use Rattle.integers.specs.Integers.{inside as insideOf};
 ghost use Rattle.lists.specs.Lists.{every};
-ghost use Rattle.refusal.specs.declared.Refusal.the-variants.{Shape, Branch};
-ghost use Rattle.refusal.specs.Refusals.{check, _then_};
-ghost use Rattle.trellis.specs.Table.{tableOf, shaped as shapedTable, branched, systematic};
+ghost use Rattle.refusal.specs.Refusals.{firstOf};
+ghost use Rattle.trellis.specs.Table.{tableOf, shaped as shapedTable, systematic, tableChecks};
 use refusal::Refusal;
 use refusal::Reply;
 
@@ -101,9 +100,7 @@ pub fn all_inside(xs: &[i16], limit: u32) -> bool
 
 // The table: 2 and 3.
 pub fn table_reply(states: usize, outputs: usize, next: &[u8], words: &[u8]) -> Reply
-    ensures { λ r. ⌜
-        r ≡ (check (shapedTable (tableOf states outputs (now (next .entry)) (now (words .entry)))) Shape
-        then check (branched (tableOf states outputs (now (next .entry)) (now (words .entry)))) Branch) ⌝ }
+    ensures { λ r. ⌜ r ≡ firstOf (tableChecks (tableOf states outputs (now (next .entry)) (now (words .entry)))) ⌝ }
 {
     if !shaped(states, outputs, next, words) {
         return Reply::Refused(Refusal::Shape);

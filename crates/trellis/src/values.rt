@@ -2,7 +2,9 @@
 ghost use mathlib.Core.Bool.{cond};
 ghost use mathlib.Core.Path.{_≡_};
 ghost use lib.Dec.{ltb};
-ghost use Rattle.trellis.specs.Limits.{firstOutside, channelReply, aprioriReply};
+ghost use mathlib.Core.List.{[], _∷_};
+ghost use Rattle.refusal.specs.Refusals.{firstOf};
+ghost use Rattle.trellis.specs.Limits.{firstOutside, channelCheck, aprioriCheck};
 use crate::checks::all_inside;
 use crate::checks::inside;
 use refusal::Refusal;
@@ -37,7 +39,7 @@ fn first_outside(xs: &[i16], limit: u32) -> usize
 
 // Channel values: 6 with the index of the first outside its limits.
 pub fn channel_reply(xs: &[i16]) -> Reply
-    ensures { λ r. ⌜ r ≡ channelReply (now (xs .entry)) ⌝ }
+    ensures { λ r. ⌜ r ≡ firstOf (channelCheck (now (xs .entry)) ∷ []) ⌝ }
 {
     if all_inside(xs, 1023) {
         return Reply::Done;
@@ -47,7 +49,7 @@ pub fn channel_reply(xs: &[i16]) -> Reply
 
 // A-priori values: 16 with the index of the first outside its limits.
 pub fn apriori_reply(xs: &[i16]) -> Reply
-    ensures { λ r. ⌜ r ≡ aprioriReply (now (xs .entry)) ⌝ }
+    ensures { λ r. ⌜ r ≡ firstOf (aprioriCheck (now (xs .entry)) ∷ []) ⌝ }
 {
     if all_inside(xs, 8191) {
         return Reply::Done;

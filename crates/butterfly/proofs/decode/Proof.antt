@@ -7,11 +7,11 @@ use mathlib.Core.List.{List}
 use Prim.Native.Nat.{ℕ}
 use Rattle.trellis.specs.Table.{tableOf}
 use Rattle.trellis.specs.Path.{Values}
-use Rattle.siso.specs.Decode.{Call, Lent, walked, settled}
+use Rattle.siso.specs.Decode.{Call, Lent}
 use Rattle.siso.specs.Lent.{callOf, lentOf}
 use Rattle.siso.specs.laws.Accepted.{Accepted, accepts}
 use Rattle.siso.specs.laws.Pass.{Pass}
-use Rattle.siso.specs.laws.Settled.{decode-walked}
+use Rattle.siso.specs.laws.Settled.{walked, decode-walked}
 use Rattle.butterfly.specs.laws.Tables.{IsButterfly}
 use Rattle.butterfly.proofs.decode.Statement.{statement}
 use Rattle.butterfly.proofs.decode.Tie as tie
@@ -108,8 +108,8 @@ returns-2 c =
     ran .run .ensures
     ∙ ap
     (λ outputs.
-    let asked = callOf (args .states) outputs (args .next .now) (args .words .now) (args .end) (args .sections) (args .channel .now) (args .apriori .now) in
-    settled (walked asked) asked (lent s))
+    walked
+    (callOf (args .states) outputs (args .next .now) (args .words .now) (args .end) (args .sections) (args .channel .now) (args .apriori .now)) (lent s))
     (sym (is branch .two-outputs))
     ∙ decode-walked _ _ (accepts _ _ (taken branch))
 

@@ -5,7 +5,8 @@ use lib.ListN.{length}
 use borrow.Author.Needs.{needs}
 use borrow.Author.Tests.{not-true, not-false}
 use Rattle.refusal.specs.declared.Reply.the-variants.{Done}
-use Rattle.polynomial.specs.Polynomial.{PatternCall, patternCallOf, sizesReply}
+use Rattle.refusal.specs.Refusals.{firstOf}
+use Rattle.polynomial.specs.Polynomial.{PatternCall, patternCallOf, sizeChecks}
 use Rattle.polynomial.specs.laws.Making.{Fitting, fitting, built-refused, built-no-pattern, built-done}
 use Rattle.polynomial.proofs.polynomial_pattern.Statement.{statement}
 use Rattle.polynomial.proofs.polynomial_pattern.Tie as tie
@@ -22,7 +23,7 @@ module _ (c : tie.After-enum-told2) where
   abbrev entry : tie.Start
   entry = start (c .before .before)
 
-  passed : sizesReply (call entry) (length (entry .args .pattern .now)) ≡ Done
+  passed : firstOf (sizeChecks (call entry) (length (entry .args .pattern .now))) ≡ Done
   passed = sym (c .before .before .sizes-reply .ensures) ∙ c .enum-told2 .given .1
 
   fits : Fitting (call entry) (entry .args .pattern .now)

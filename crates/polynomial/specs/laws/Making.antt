@@ -10,13 +10,13 @@ use lib.ListN.{length}
 use borrow.Author.Tests.{ltb-true, eqb-true}
 use Rattle.lists.specs.laws.Tests.{and-both}
 use Rattle.refusal.specs.declared.Refusal.{Refusal}
-use Rattle.refusal.specs.declared.Refusal.the-variants.{Polynomial, Length, Lists, Pattern}
+use Rattle.refusal.specs.declared.Refusal.the-variants.{Pattern}
 use Rattle.refusal.specs.declared.Reply.the-variants.{Done, Refused}
-use Rattle.refusal.specs.Refusals.{check, after}
-use Rattle.refusal.specs.laws.Checks.{check-is-done, first-passed, done-then, refused-then}
+use Rattle.refusal.specs.Refusals.{check, _then_, firstOf, after}
+use Rattle.refusal.specs.laws.InTurn.{first-passes, first-refuses, Each, each-holds}
 use Rattle.frame.specs.Interleaver.{permutes}
 use Rattle.frame.specs.laws.Checked.{sizes-small}
-use Rattle.polynomial.specs.Polynomial.{PatternCall, entries, coefficientsFit, bitsFit, sizesReply, patternReply, patternResultOf, patternBuilt}
+use Rattle.polynomial.specs.Polynomial.{PatternCall, entries, coefficientsFit, bitsFit, sizeChecks, entryChecks, patternChecks, patternResultOf, patternBuilt}
 
 -- K and both coefficients within their limits
 pub record Small (c : PatternCall) : Type 0 where
@@ -45,11 +45,10 @@ module _ (c : PatternCall) (pattern : List ℕ) where
     pub small : Small c
     pub long : length pattern ≡ c .bits
 
-  pub fitting : sizesReply c (length pattern) ≡ Done → Fitting
-  unfolding sizesReply coefficientsFit bitsFit
+  pub fitting : firstOf (sizeChecks c (length pattern)) ≡ Done → Fitting
+  unfolding sizeChecks Each coefficientsFit bitsFit
   fitting e =
-      let (coefficients, after-coefficients) = first-passed _ Polynomial _ e in
-      let (sizes, after-sizes) = first-passed _ Length _ after-coefficients in
+      let (coefficients, (sizes, (list, end))) = each-holds (sizeChecks c (length pattern)) e in
       let few : c .bits ≤ 4096 = omega (arith, sizes-small (c .bits) 0 sizes .1) in
       let (f1, f2) = and-both _ _ coefficients in
       record {
@@ -58,18 +57,18 @@ module _ (c : PatternCall) (pattern : List ℕ) where
           f1-below = ltb-true _ _ f1;
           f2-below = ltb-true _ _ f2;
         };
-        long = eqb-true _ _ (check-is-done _ Lists .0 after-sizes);
+        long = eqb-true _ _ list;
       }
 
-  pub built-refused : (r : Refusal) → sizesReply c (length pattern) ≡ Refused r → patternResultOf (Refused r) pattern ≡ patternBuilt c pattern
-  unfolding patternBuilt patternReply after
-  built-refused r e = rw (refused-then (check (permutes (c .bits) (entries c)) Pattern) e)
+  pub built-refused : (r : Refusal) → firstOf (sizeChecks c (length pattern)) ≡ Refused r → patternResultOf (Refused r) pattern ≡ patternBuilt c pattern
+  unfolding patternBuilt patternChecks after
+  built-refused r e = rw (first-refuses (sizeChecks c (length pattern)) (entryChecks c) e)
 
-  module _ (passed : sizesReply c (length pattern) ≡ Done) where
+  module _ (passed : firstOf (sizeChecks c (length pattern)) ≡ Done) where
     pub built-no-pattern : permutes (c .bits) (entries c) ≡ false → patternResultOf (Refused Pattern) pattern ≡ patternBuilt c pattern
-    unfolding patternBuilt patternReply after check
-    built-no-pattern e = rw (done-then {y = check (permutes (c .bits) (entries c)) Pattern} passed, e)
+    unfolding patternBuilt patternChecks entryChecks firstOf check _then_ after
+    built-no-pattern e = rw (first-passes (sizeChecks c (length pattern)) (entryChecks c) passed, e)
 
     pub built-done : {made : List ℕ} → permutes (c .bits) (entries c) ≡ true → made ≡ entries c → patternResultOf Done made ≡ patternBuilt c pattern
-    unfolding patternBuilt patternReply after check
-    built-done e is = rw (done-then {y = check (permutes (c .bits) (entries c)) Pattern} passed, e, is)
+    unfolding patternBuilt patternChecks entryChecks firstOf check _then_ after
+    built-done e is = rw (first-passes (sizeChecks c (length pattern)) (entryChecks c) passed, e, is)

@@ -26,6 +26,10 @@ module _ (f : Refusal → Bool) where
     gives : passing x ≡ true
 
 module _ {f : Refusal → Bool} where
+  pub gives-done : Gives f Done
+  unfolding passing
+  gives-done = record { gives = refl }
+
   pub gives-check : (b : Bool) (r : Refusal) → f r ≡ true → Gives f (check b r)
   unfolding passing check
   gives-check true r e = record { gives = refl }

@@ -5,7 +5,8 @@ use Prim.Native.Nat.{_^_}
 use native.Mathlib.Omega.{arith}
 use borrow.Author.Needs.{needs}
 use Rattle.refusal.specs.declared.Reply.the-variants.{Done}
-use Rattle.taps.specs.Build.{TapsCall, TapsLent, tapsCallOf, tapsLentOf, tapsReply}
+use Rattle.refusal.specs.Refusals.{firstOf}
+use Rattle.taps.specs.Build.{TapsCall, TapsLent, tapsCallOf, tapsLentOf, tapsChecks}
 use Rattle.taps.specs.laws.Filling.{Buildable, buildable, built-refused, built-done, counted-states, few-states}
 use Rattle.taps.proofs.taps_table.Statement.{statement}
 use Rattle.taps.proofs.taps_table.Tie as tie
@@ -25,8 +26,8 @@ module _ (c : tie.After-enum-told2) where
   abbrev entry : tie.Start
   entry = start (c .before .before)
 
-  passed : tapsReply (call entry) (lent entry) ≡ Done
-  unfolding tapsReply
+  passed : firstOf (tapsChecks (call entry) (lent entry)) ≡ Done
+  unfolding tapsChecks
   passed = sym (c .before .before .taps-reply .ensures) ∙ c .enum-told2 .given .1
 
   fits : Buildable (call entry) (lent entry)
@@ -44,7 +45,7 @@ enum-told : tie.Need-enum-told
 enum-told c = search needs
 
 returns : tie.Need-returns
-unfolding tapsReply
+unfolding tapsChecks
 returns c =
     let entry = start (c .before .before) in
     let told = c .enum-told .given .1 in

@@ -14,12 +14,11 @@ use borrow.Author.Tests.{leb-true, eqb-true}
 use Rattle.lists.specs.Lists.{listed}
 use Rattle.lists.specs.laws.Tests.{and-left, and-right, and-both}
 use Rattle.refusal.specs.declared.Refusal.{Refusal}
-use Rattle.refusal.specs.declared.Refusal.the-variants.{Shape, Polynomial}
 use Rattle.refusal.specs.declared.Reply.the-variants.{Done, Refused}
-use Rattle.refusal.specs.Refusals.{after}
-use Rattle.refusal.specs.laws.Checks.{check-is-done, first-passed}
+use Rattle.refusal.specs.Refusals.{firstOf, after}
+use Rattle.refusal.specs.laws.InTurn.{Each, each-holds}
 use Rattle.taps.specs.Taps.{nextEntry, wordEntry, tapsTable}
-use Rattle.taps.specs.Build.{TapsCall, TapsLent, tapsResultOf, memoryFits, tapsListsFit, tapsFit, tapsReply, tapsBuilt}
+use Rattle.taps.specs.Build.{TapsCall, TapsLent, tapsResultOf, memoryFits, tapsListsFit, tapsFit, tapsChecks, tapsBuilt}
 
 -- a number of states within the limits
 pub record FewStates (states : ℕ) : Type 0 where
@@ -57,19 +56,19 @@ module _ (c : TapsCall) (l : TapsLent) where
     pub next-long : length (l .next) ≡ 2 * 2 ^ c .memory
     pub words-long : length (l .words) ≡ 2 * 2 ^ c .memory
 
-  pub buildable : tapsReply c l ≡ Done → Buildable
-  unfolding tapsReply tapsListsFit tapsFit
+  pub buildable : firstOf (tapsChecks c l) ≡ Done → Buildable
+  unfolding tapsChecks Each tapsListsFit tapsFit
   buildable e =
-      let (lists, after-lists) = first-passed _ Shape _ e in
-      let memory = and-left (memoryFits (c .memory)) _ (check-is-done _ Polynomial .0 after-lists) in
+      let (lists, (taps, end)) = each-holds (tapsChecks c l) e in
+      let memory = and-left (memoryFits (c .memory)) _ taps in
       let (next, words) = and-both _ _ (rw memory at lists) in
       record { memory = memory; next-long = eqb-true _ _ next; words-long = eqb-true _ _ words }
 
-  pub built-refused : (r : Refusal) → tapsReply c l ≡ Refused r → tapsResultOf (Refused r) (l .next) (l .words) ≡ tapsBuilt c l
+  pub built-refused : (r : Refusal) → firstOf (tapsChecks c l) ≡ Refused r → tapsResultOf (Refused r) (l .next) (l .words) ≡ tapsBuilt c l
   unfolding tapsBuilt after
   built-refused r e = rw e
 
-  pub built-done : {next words : List ℕ} → tapsReply c l ≡ Done → BuiltBy (2 ^ c .memory) (c .feedback) (c .parity) next words →
+  pub built-done : {next words : List ℕ} → firstOf (tapsChecks c l) ≡ Done → BuiltBy (2 ^ c .memory) (c .feedback) (c .parity) next words →
       tapsResultOf Done next words ≡ tapsBuilt c l
   unfolding tapsBuilt after tapsTable
   built-done e built = rw (e, built .next-is, built .words-are)

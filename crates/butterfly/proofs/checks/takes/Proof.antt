@@ -4,14 +4,15 @@ use borrow.Author.Needs.{needs}
 use borrow.Author.Tests.{le-leb, not-false}
 use mathlib.Core.Path.{_≡_, sym, ap, _∙_}
 use mathlib.Core.Bool.{true, false≢true}
+use mathlib.Core.List.{[], _∷_}
 use Prim.Native.Nat.{_*_}
 use native.Mathlib.Omega.{arith}
 use lib.ListN.{length}
 use Rattle.lists.specs.laws.Tests.{and-true}
-use Rattle.refusal.specs.declared.Refusal.the-variants.{Shape, Branch, Value, Apriori}
-use Rattle.refusal.specs.laws.Checks.{then-is-done, first-passed, check-is-done}
-use Rattle.trellis.specs.Table.{tableOf}
-use Rattle.trellis.specs.Limits.{sectionsFit}
+use Rattle.refusal.specs.laws.Checks.{then-is-done}
+use Rattle.refusal.specs.laws.InTurn.{Each, each-holds}
+use Rattle.trellis.specs.Table.{tableOf, tableChecks}
+use Rattle.trellis.specs.Limits.{sectionsFit, channelCheck, aprioriCheck}
 use Rattle.siso.specs.Lent.{valuesOf}
 use Rattle.siso.specs.laws.Pass.{Pass}
 use Rattle.butterfly.specs.laws.Calls.{Fitting}
@@ -100,18 +101,19 @@ module _ (c : tie.After-enum-told) where
   pass :
       Pass (tableOf (entry .args .states) (entry .args .outputs) (entry .args .next .now) (entry .args .words .now)) (entry .args .sections)
       (valuesOf (entry .args .channel .now) (entry .args .apriori .now))
+  unfolding tableChecks Each
   pass =
       let (table-done, values-done) = then-is-done _ _ .0 (sym (all .first-of2 .ensures) ∙ c .enum-told .given .1) in
       let (channel-done, apriori-done) = then-is-done _ _ .0 (sym (values .first-of .ensures) ∙ values-done) in
-      let (shape, branches-done) = first-passed _ Shape _ (sym (on-table .table-reply .ensures) ∙ table-done) in
+      let (shape, (branches, end)) = each-holds (tableChecks _) (sym (on-table .table-reply .ensures) ∙ table-done) in
       record {
         shape = shape;
-        branches = check-is-done _ Branch .0 branches-done;
+        branches = branches;
         fits = sections-fit (measured .before);
         channel-long = fits .channel-fits ∙ ap (λ m. m * entry .args .sections) (sym (is (measured .before) .two-outputs));
         apriori-long = fits .apriori-fits;
-        channel-small = check-is-done _ (Value _) .0 (sym (values .before .before .channel-reply .ensures) ∙ channel-done);
-        apriori-small = check-is-done _ (Apriori _) .0 (sym (values .before .apriori-reply .ensures) ∙ apriori-done);
+        channel-small = each-holds (channelCheck _ ∷ []) (sym (values .before .before .channel-reply .ensures) ∙ channel-done) .0;
+        apriori-small = each-holds (aprioriCheck _ ∷ []) (sym (values .before .apriori-reply .ensures) ∙ apriori-done) .0;
       }
 
 returns-5 : tie.Need-returns-5

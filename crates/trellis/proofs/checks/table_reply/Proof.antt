@@ -7,9 +7,11 @@ use native.Mathlib.Omega.{arith}
 use borrow.Author.Needs.{needs}
 use borrow.Author.Tests.{not-true, not-false}
 use Rattle.refusal.specs.declared.Refusal.the-variants.{Shape, Branch}
-use Rattle.refusal.specs.laws.Checks.{check-is-done, fails, fails-first, passes-first}
+use Rattle.refusal.specs.Refusals.{firstOf}
+use Rattle.refusal.specs.laws.Checks.{fails-first, passes-first}
+use Rattle.refusal.specs.laws.InTurn.{Each, each-done}
 use Rattle.lists.specs.laws.Tests.{and-true}
-use Rattle.trellis.specs.Table.{Table, shaped, branched, tableOf}
+use Rattle.trellis.specs.Table.{Table, shaped, branched, tableOf, tableChecks}
 use Rattle.trellis.specs.laws.Branches.{shaped-is}
 use Rattle.trellis.proofs.checks.table_reply.Statement.{statement}
 use Rattle.trellis.proofs.checks.table_reply.Tie as tie
@@ -25,16 +27,17 @@ shaped-requires : tie.Need-shaped-requires
 shaped-requires c κs = search needs
 
 returns : tie.Need-returns
+unfolding tableChecks firstOf
 returns c = fails-first _ (sym (c .before .shaped .ensures) ∙ not-true _ (c .if1 .taken))
 
 all-below-requires : tie.Need-all-below-requires
 all-below-requires c κs = search needs
 
 returns-2 : tie.Need-returns-2
-unfolding table branched
+unfolding table tableChecks firstOf branched
 returns-2 c =
     let bad = sym (c .before .all-below .ensures) ∙ not-true _ (c .if2 .taken) in
-    passes-first Shape (is-shaped (c .before .before)) (fails (rw bad))
+    passes-first Shape (is-shaped (c .before .before)) (fails-first _ (rw bad))
 
 word-count-requires : tie.Need-word-count-requires
 word-count-requires c κs = search needs
@@ -51,18 +54,18 @@ all-below-requires-2 : tie.Need-all-below-requires-2
 all-below-requires-2 c κs = search needs
 
 returns-3 : tie.Need-returns-3
-unfolding table branched
+unfolding table tableChecks firstOf branched
 returns-3 c =
     let bad = rw (counted (c .before .before)) at (sym (c .before .all-below2 .ensures) ∙ not-true _ (c .if3 .taken)) in
-    passes-first Shape (is-shaped (c .before .before .before .before .before)) (fails (rw (bad, and-false)))
+    passes-first Shape (is-shaped (c .before .before .before .before .before)) (fails-first _ (rw (bad, and-false)))
 
 returns-4 : tie.Need-returns-4
-unfolding table branched
+unfolding table tableChecks Each branched
 returns-4 c =
     let at = c .before .before .before in
     let next = sym (at .before .all-below .ensures) ∙ not-false _ (at .if2 .left) in
     let words = rw (counted (c .before .before)) at (sym (c .before .all-below2 .ensures) ∙ not-false _ (c .if3 .left)) in
-    passes-first Shape (is-shaped (at .before .before)) (sym (check-is-done _ Branch .1 (and-true next words)))
+    sym (each-done _ (is-shaped (at .before .before), (and-true next words, tt)))
 
 pub table-reply-spec : {M : Type 1} → statement M
 table-reply-spec =

@@ -1,7 +1,7 @@
 -- `trellis::values::apriori_reply` is the definition's check. Assumes nothing.
 use mathlib.Core.Path.{sym, _∙_}
 use borrow.Author.Needs.{needs}
-use Rattle.refusal.specs.Refusals.{check}
+use Rattle.refusal.specs.Refusals.{check, _then_, firstOf}
 use Rattle.trellis.specs.Limits.{aprioriFits}
 use Rattle.trellis.proofs.values.apriori_reply.Statement.{statement}
 use Rattle.trellis.proofs.values.apriori_reply.Tie as tie
@@ -10,14 +10,14 @@ all-inside-requires : tie.Need-all-inside-requires
 all-inside-requires c κs = search needs
 
 returns : tie.Need-returns
-unfolding check aprioriFits
+unfolding firstOf check _then_ aprioriFits
 returns c = rw (sym (c .before .all-inside .ensures) ∙ c .if1 .taken)
 
 first-outside-requires : tie.Need-first-outside-requires
 first-outside-requires c κs = search needs
 
 returns-2 : tie.Need-returns-2
-unfolding check aprioriFits
+unfolding firstOf check _then_ aprioriFits
 returns-2 c = rw (sym (c .before .before .all-inside .ensures) ∙ c .before .if1 .left, c .first-outside .ensures)
 
 pub apriori-reply-spec : {M : Type 1} → statement M
