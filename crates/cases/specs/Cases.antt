@@ -56,7 +56,7 @@ unfolding
     Table.nextState Table.word Table.output Table.systematic Table.shaped Table.branched
     Lone.listsFit Lone.checked Lone.walked Lone.reply Lone.settled Lone.decode
     Coder.tailFrom Coder.ringStart Coder.codedPath Coder.parityAt Coder.sectionAt Coder.places Coder.sentFor Coder.encodeListsFit Coder.encodeChecked Coder.tailed Coder.encodeReply Coder.encodeSettled Coder.encode
-    Decoder.handOver Decoder.decided Decoder.channel1Under Decoder.channel1 Decoder.channel2Under Decoder.channel2 Decoder.pass Decoder.pass1 Decoder.pass2 Decoder.handOn Decoder.handBack Decoder.iteration Decoder.prior Decoder.lastPass Decoder.decodeListsFit Decoder.decodeChecked Decoder.decodeWalked Decoder.decodeReply Decoder.decodeSettled Decoder.decode
+    Decoder.handOver Decoder.decided Decoder.channel1Under Decoder.channel1 Decoder.channel2Under Decoder.channel2 Decoder.pass Decoder.handOn Decoder.handBack Decoder.handedOn Decoder.iteration Decoder.priorAfter Decoder.lastPass Decoder.decodeListsFit Decoder.decodeChecked Decoder.decodeWalked Decoder.decodeReply Decoder.decodeSettled Decoder.decode
     Frame.tailOf Frame.tail1 Frame.tail2 Frame.sections1 Frame.sections2 Frame.longer Frame.sizesFit Frame.masksFit Frame.codes Frame.maskAt Frame.maskFlags Frame.onesTo Frame.lengthUnder Frame.frameLength Frame.flagsUnder Frame.flags Frame.puncture Frame.spread
     House.houseParity House.houseNext House.house
     Interleaver.permutes Interleaver.place Interleaver.interleave Interleaver.deinterleave

@@ -65,12 +65,6 @@ pass f end channel a =
       extrinsics = extrinsics (f .table) v end (sectionsOf f end) (f .bits);
     }
 
-unfoldable pub pass1 : Frame → List ℤ → List ℤ → Soft
-pass1 f r a = pass f (f .first) (channel1 f r) a
-
-unfoldable pub pass2 : Frame → List ℤ → List ℤ → Soft
-pass2 f r a = pass f (f .second) (channel2 f r) a
-
 -- ---- iterations
 
 -- what pass 1 hands to pass 2, and pass 2 back to pass 1: each in the other's order
@@ -80,18 +74,28 @@ handOn f s = interleave (pos 0) (f .pattern) (map handOver (s .extrinsics))
 unfoldable pub handBack : Frame → Soft → List ℤ
 handBack f s = deinterleave (pos 0) (f .pattern) (map handOver (s .extrinsics))
 
--- an iteration is pass 1, then pass 2: what pass 2 says, from the a-priori values of pass 1
-unfoldable pub iteration : Frame → List ℤ → List ℤ → Soft
-iteration f r a = pass2 f r (handOn f (pass1 f r a))
+-- by the channel values of pass 1 and of pass 2
+module _ (f : Frame) (first second : List ℤ) where
+  -- the a-priori values of pass 2, from those of pass 1
+  unfoldable pub handedOn : List ℤ → List ℤ
+  handedOn a = handOn f (pass f (f .first) first a)
 
--- the a-priori values of pass 1 after i iterations; the very first pass has 0
-unfoldable pub prior : Frame → List ℤ → ℕ → List ℤ
-prior f r zero = replicate (f .bits) (pos 0)
-prior f r (suc i) = handBack f (iteration f r (prior f r i))
+  -- an iteration is pass 1, then pass 2: what pass 2 says, from the a-priori values of pass 1
+  unfoldable pub iteration : List ℤ → Soft
+  iteration a = pass f (f .second) second (handedOn a)
 
--- what the last pass 2 of n iterations says, n at least 1
-unfoldable pub lastPass : Frame → List ℤ → ℕ → Soft
-lastPass f r n = iteration f r (prior f r (n - 1))
+  -- the a-priori values of pass 1 after i iterations, the first of them from a
+  unfoldable pub priorAfter : List ℤ → ℕ → List ℤ
+  priorAfter a zero = a
+  priorAfter a (suc i) = handBack f (iteration (priorAfter a i))
+
+  -- what the last pass 2 of n iterations says, n at least 1
+  unfoldable pub lastPass : List ℤ → ℕ → Soft
+  lastPass a n = iteration (priorAfter a (n - 1))
+
+-- a frame's: the very first pass has the a-priori values 0
+abbrev pub decodedPass : Frame → List ℤ → ℕ → Soft
+decodedPass f r n = lastPass f (channel1 f r) (channel2 f r) (replicate (f .bits) (pos 0)) n
 
 -- ---- the whole result
 
@@ -160,7 +164,7 @@ pub record DecodeResult : Type 0 where
 unfoldable pub decodeSettled : Reply → DecodeCall → DecodeLent → DecodeResult
 decodeSettled r c l =
     let f = c .frame in
-    let s = lastPass f (spread (pos 0) (flags f) (c .received)) (c .iterations) in
+    let s = decodedPass f (spread (pos 0) (flags f) (c .received)) (c .iterations) in
     record {
       reply = r;
       lists = record {

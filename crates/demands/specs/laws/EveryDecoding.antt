@@ -21,7 +21,7 @@ use Rattle.trellis.specs.laws.Emptiness.{outcome-is-free}
 use Rattle.frame.specs.Interleaver.{deinterleave}
 use Rattle.frame.specs.laws.Interleaving.{Permutes, interleave-at, deinterleave-at, interleave-length, deinterleave-length}
 use Rattle.frame.specs.Frame.{Frame, sectionsOf, tailOf, flags, spread}
-use Rattle.decoder.specs.Decoder.{handOver, decided, channel1, channel2, Soft, pass, pass1, pass2, handOn, handBack, iteration, prior, lastPass}
+use Rattle.decoder.specs.Decoder.{handOver, decided, channel1, channel2, Soft, pass, handOn, handBack, handedOn, iteration, priorAfter, lastPass, decodedPass}
 use Rattle.decoder.specs.laws.Decodable.{decodable}
 use Rattle.frame.specs.laws.Checked.{checked}
 use Rattle.decoder.specs.Decoder.{DecodeCall, DecodeLent, decodeChecked, decodeSettled, decode}
@@ -78,14 +78,18 @@ unfolding handOver limited maxℤ minℤ
 hand-over-at xs k = List·getD-map handOver xs k (pos 0)
 
 module _ (f : Frame) (r : List ℤ) (w : Permutes (f .bits) (f .pattern)) where
+  -- the a-priori values of pass 1 after i iterations
+  abbrev prior : ℕ → List ℤ
+  prior i = priorAfter f (channel1 f r) (channel2 f r) (replicate (f .bits) (pos 0)) i
+
   firstPass : ℕ → Pass
-  firstPass i = passOver f (f .first) (channel1 f r) (prior f r i)
+  firstPass i = passOver f (f .first) (channel1 f r) (prior i)
 
   secondPass : ℕ → Pass
-  secondPass i = passOver f (f .second) (channel2 f r) (handOn f (pass1 f r (prior f r i)))
+  secondPass i = passOver f (f .second) (channel2 f r) (handedOn f (channel1 f r) (channel2 f r) (prior i))
 
-  prior-long : (i : ℕ) → length (prior f r i) ≡ f .bits
-  unfolding prior handBack
+  prior-long : (i : ℕ) → length (prior i) ≡ f .bits
+  unfolding priorAfter handBack
   prior-long zero = length-replicate (f .bits) (pos 0)
   prior-long (suc i) = deinterleave-length (pos 0) (f .bits) (f .pattern) w _
 
@@ -107,27 +111,27 @@ module _ (f : Frame) (r : List ℤ) (w : Permutes (f .bits) (f .pattern)) where
 
   -- the a-priori values of the very first pass, of a pass 2 and of any later pass 1
   starts-at : (k : ℕ) → k < f .bits → aprioriAt (firstPass 0 .values) k ≡ pos 0
-  unfolding firstPass prior
+  unfolding firstPass priorAfter
   starts-at k h = apriori-at f (f .first) (channel1 f r) _ (prior-long 0) k h ∙ getD-replicate (f .bits) k (pos 0) (pos 0) h
 
   on-at-pass : (i k : ℕ) → k < f .bits → aprioriAt (secondPass i .values) k ≡ handOver (extrinsicAt (f .table) (firstPass i) (patternAt f k))
-  unfolding firstPass secondPass pass1
+  unfolding firstPass secondPass handedOn
   on-at-pass i k h =
       apriori-at f (f .second) (channel2 f r) _ (handed-long _) k h
-      ∙ on-at (pass1 f r (prior f r i)) k h
-      ∙ ap handOver (pass-extrinsic-at f (f .first) (channel1 f r) (prior f r i) (patternAt f k) (pos 0) (in-pattern k h))
+      ∙ on-at (pass f (f .first) (channel1 f r) (prior i)) k h
+      ∙ ap handOver (pass-extrinsic-at f (f .first) (channel1 f r) (prior i) (patternAt f k) (pos 0) (in-pattern k h))
 
   back-at-pass : (i k : ℕ) → k < f .bits → aprioriAt (firstPass (suc i) .values) (patternAt f k) ≡ handOver (extrinsicAt (f .table) (secondPass i) k)
-  unfolding firstPass secondPass prior iteration pass2
+  unfolding firstPass secondPass priorAfter iteration
   back-at-pass i k h =
       apriori-at f (f .first) (channel1 f r) _ (prior-long (suc i)) (patternAt f k) (in-pattern k h)
-      ∙ back-at (iteration f r (prior f r i)) k h
+      ∙ back-at (iteration f (channel1 f r) (channel2 f r) (prior i)) k h
       ∙ ap handOver (pass-extrinsic-at f (f .second) (channel2 f r) _ k (pos 0) h)
 
   are-iterations : (n : ℕ) → AreIterations f r n firstPass secondPass
-  unfolding firstPass secondPass
+  unfolding firstPass secondPass handedOn
   are-iterations n = record {
-    pass-1 = λ i h. is-pass f (f .first) (channel1 f r) (prior f r i) (prior-long i);
+    pass-1 = λ i h. is-pass f (f .first) (channel1 f r) (prior i) (prior-long i);
     pass-2 = λ i h. is-pass f (f .second) (channel2 f r) _ (handed-long _);
     starts = starts-at;
     hands-on = λ i h. on-at-pass i;
@@ -137,12 +141,12 @@ module _ (f : Frame) (r : List ℤ) (w : Permutes (f .bits) (f .pattern)) where
   -- ---- the lists of the last pass 2
 
   lists-written : (n : ℕ) (l : DecodeLent) → ((k : ℕ) → k < f .bits → forced (f .table) (f .second) (sectionsOf f (f .second)) k ≡ false) →
-      l .bits ≡ deinterleave 0 (f .pattern) (map decided (lastPass f r n .margins)) →
-      l .margins ≡ deinterleave (pos 0) (f .pattern) (lastPass f r n .margins) →
-      l .extrinsics ≡ deinterleave (pos 0) (f .pattern) (lastPass f r n .extrinsics) → AreWritten f (secondPass (n - 1)) l
-  unfolding lastPass iteration pass2 patternAt secondPass decided
+      l .bits ≡ deinterleave 0 (f .pattern) (map decided (decodedPass f r n .margins)) →
+      l .margins ≡ deinterleave (pos 0) (f .pattern) (decodedPass f r n .margins) →
+      l .extrinsics ≡ deinterleave (pos 0) (f .pattern) (decodedPass f r n .extrinsics) → AreWritten f (secondPass (n - 1)) l
+  unfolding lastPass iteration patternAt secondPass decided
   lists-written n l free bits margins extrinsics =
-      let a = handOn f (pass1 f r (prior f r (n - 1))) in
+      let a = handedOn f (channel1 f r) (channel2 f r) (prior (n - 1)) in
       let s = pass f (f .second) (channel2 f r) a in
       record {
         bits-long = rw bits (deinterleave-length 0 (f .bits) (f .pattern) w _);

@@ -12,7 +12,7 @@ use Rattle.trellis.specs.Outcome.{forced}
 use Rattle.frame.specs.Interleaver.{interleave, deinterleave}
 use Rattle.frame.specs.laws.Interleaving.{Permutes, deinterleave-undoes}
 use Rattle.frame.specs.Frame.{Frame, sectionsOf, tail1, tail2}
-use Rattle.decoder.specs.Decoder.{decided, channel2, pass1, pass2, handOn, handBack, iteration, prior, lastPass}
+use Rattle.decoder.specs.Decoder.{decided, channel1, channel2, handOn, handBack, handedOn, iteration, priorAfter, lastPass, decodedPass}
 use Rattle.frame.specs.laws.Checked.{checked}
 use Rattle.decoder.specs.laws.Channels.{channel2-systematic}
 use Rattle.demands.specs.laws.Heard.{IsHeard, first-agrees, second-agrees}
@@ -28,30 +28,30 @@ module _ {f : Frame} {message : List ℕ} {r : List ℤ} (heard : IsHeard f mess
   permuted = checked f (heard .framed) .permutes
 
   module _ {a : List ℤ} (told : Leans (f .bits) message a) where
-    handed-on : Leans (f .bits) interleaved (handOn f (pass1 f r a))
-    unfolding handOn pass1
+    handed-on : Leans (f .bits) interleaved (handedOn f (channel1 f r) (channel2 f r) a)
+    unfolding handedOn handOn
     handed-on =
         interleaved-leans permuted (handed-leans (extrinsics-lean f (heard .framed) (heard .first-coder) (first-agrees heard) told))
 
-    handed-back : Leans (f .bits) message (handBack f (iteration f r a))
-    unfolding handBack iteration pass2
+    handed-back : Leans (f .bits) message (handBack f (iteration f (channel1 f r) (channel2 f r) a))
+    unfolding handBack iteration
     handed-back =
         deinterleaved-leans permuted (handed-leans (extrinsics-lean f (heard .framed) (heard .second-coder) (second-agrees heard) handed-on))
 
-  prior-leans : (i : ℕ) → Leans (f .bits) message (prior f r i)
-  unfolding prior
-  prior-leans zero = zeros-lean (f .bits) message
-  prior-leans (suc i) = handed-back (prior-leans i)
+  prior-leans : {a : List ℤ} → Leans (f .bits) message a → (i : ℕ) → Leans (f .bits) message (priorAfter f (channel1 f r) (channel2 f r) a i)
+  unfolding priorAfter
+  prior-leans told zero = told
+  prior-leans told (suc i) = handed-back (prior-leans told i)
 
   module _ (free : (k : ℕ) → k < f .bits → forced (f .table) (f .second) (sectionsOf f (f .second)) k ≡ false) (told : (k : ℕ) → k < f .bits → getD r (3 * k) (pos 0) ≢ pos 0)
       (n : ℕ) where
-    margins-tell-message : Tells (f .bits) interleaved (lastPass f r n .margins)
-    unfolding lastPass iteration pass2 channel2
+    margins-tell-message : Tells (f .bits) interleaved (decodedPass f r n .margins)
+    unfolding lastPass iteration channel2
     margins-tell-message =
-        margins-tell f (heard .framed) (heard .second-coder) (second-agrees heard) (handed-on (prior-leans (n - 1))) free
+        margins-tell f (heard .framed) (heard .second-coder) (second-agrees heard) (handed-on (prior-leans (zeros-lean (f .bits) message) (n - 1))) free
         (λ k h. rw (channel2-systematic (f .pattern) (f .bits) (tail1 f) (tail2 f) r k h) (told (getD (f .pattern) k 0) (permuted .below k h)))
 
-    pub bits-are-the-message : deinterleave 0 (f .pattern) (map decided (lastPass f r n .margins)) ≡ message
+    pub bits-are-the-message : deinterleave 0 (f .pattern) (map decided (decodedPass f r n .margins)) ≡ message
     bits-are-the-message =
         ap (λ (l : List ℕ). deinterleave 0 (f .pattern) l) (decided-all (heard .second-coder .own .size) (λ k h. heard .second-coder .own .bit k) margins-tell-message)
         ∙ deinterleave-undoes 0 (f .bits) (f .pattern) permuted message (heard .first-coder .own .size)
