@@ -9,13 +9,13 @@ use lib.ListN.{length, getD, take, drop, replicate}
 use lib.Signed.{quotZ}
 use Rattle.integers.specs.Integers.{limited}
 use Rattle.lists.specs.Lists.{joined, any, upto}
-use Rattle.refusal.specs.declared.Refusal.the-variants.{Shape, Branch, Length, Lists, Pattern, Mask, Iterations, Coder, NoPath, ForcedPosition}
+use Rattle.refusal.specs.declared.Refusal.the-variants.{Length, Lists, Pattern, Mask, Iterations, Coder, NoPath, ForcedPosition}
 use Rattle.refusal.specs.declared.Reply.{Reply}
-use Rattle.refusal.specs.Refusals.{check, _then_, after, cleared}
+use Rattle.refusal.specs.Refusals.{Check, _unless_, firstOf, after, cleared}
 use Rattle.trellis.specs.declared.End.{End}
-use Rattle.trellis.specs.Table.{shaped, branched}
+use Rattle.trellis.specs.Table.{tableChecks}
 use Rattle.trellis.specs.Path.{Values}
-use Rattle.trellis.specs.Limits.{aprioriLimit, channelReply}
+use Rattle.trellis.specs.Limits.{aprioriLimit, channelCheck}
 use Rattle.trellis.specs.Outcome.{pathless, forced, margins, extrinsics}
 use Rattle.frame.specs.Interleaver.{permutes, interleave, deinterleave}
 use Rattle.frame.specs.Frame.{Frame, tailOf, tail1, tail2, sectionsOf, sections1, sections2, longer, sizesFit, masksFit, codes, frameLength, flags, spread}
@@ -127,33 +127,37 @@ decodeListsFit c l =
     && eqb (length (l .extrinsics)) (f .bits)
     && eqb (length (l .work)) ((longer f + 1) * f .table .states)
 
--- the checks of what is lent: the lowest number but 12 and 13 that applies
-unfoldable pub decodeChecked : DecodeCall → DecodeLent → Reply
-decodeChecked c l =
+-- the checks of what is lent, in their order
+unfoldable pub decodeLentChecks : DecodeCall → DecodeLent → List Check
+decodeLentChecks c l =
     let f = c .frame in
-    check (shaped (f .table)) Shape
-    then check (branched (f .table)) Branch
-    then check (sizesFit f) Length
-    then check (decodeListsFit c l) Lists
-    then channelReply (c .received)
-    then check (permutes (f .bits) (f .pattern)) Pattern
-    then check (masksFit f) Mask
-    then check (goodIterations (c .iterations)) Iterations
-    then check (codes f) Coder
+    tableChecks (f .table)
+    ++ (Length unless sizesFit f
+    ∷ Lists unless decodeListsFit c l
+    ∷ channelCheck (c .received)
+    ∷ Pattern unless permutes (f .bits) (f .pattern)
+    ∷ Mask unless masksFit f
+    ∷ Iterations unless goodIterations (c .iterations)
+    ∷ Coder unless codes f
+    ∷ [])
 
--- each pass has a path (not so: 12), and no message position is forced in either (not so: 13)
-unfoldable pub decodeWalked : DecodeCall → Reply
-decodeWalked c =
-    let f = c .frame in
-    check (not (pathless (f .table) (f .first) (sections1 f) || pathless (f .table) (f .second) (sections2 f))) NoPath
-    then check
-    (not
+-- each pass has a path (not so: 12)
+unfoldable pub bothWalked : Frame → Bool
+bothWalked f = not (pathless (f .table) (f .first) (sections1 f) || pathless (f .table) (f .second) (sections2 f))
+
+-- no message position is forced in either pass (not so: 13)
+unfoldable pub bothFree : Frame → Bool
+bothFree f =
+    not
     (any (forced (f .table) (f .first) (sections1 f)) (upto (f .bits))
-    || any (forced (f .table) (f .second) (sections2 f)) (upto (f .bits)))) ForcedPosition
+    || any (forced (f .table) (f .second) (sections2 f)) (upto (f .bits)))
 
--- the lowest number that applies, or done
-unfoldable pub decodeReply : DecodeCall → DecodeLent → Reply
-decodeReply c l = decodeChecked c l then decodeWalked c
+unfoldable pub decodePathChecks : Frame → List Check
+decodePathChecks f = NoPath unless bothWalked f ∷ ForcedPosition unless bothFree f ∷ []
+
+-- all checks of a call
+unfoldable pub decodeChecks : DecodeCall → DecodeLent → List Check
+decodeChecks c l = decodeLentChecks c l ++ decodePathChecks (c .frame)
 
 -- the reply, and every list as the decoder leaves it
 pub record DecodeResult : Type 0 where
@@ -176,4 +180,4 @@ decodeSettled r c l =
     }
 
 unfoldable pub decode : DecodeCall → DecodeLent → DecodeResult
-decode c l = decodeSettled (decodeReply c l) c l
+decode c l = decodeSettled (firstOf (decodeChecks c l)) c l

@@ -1,6 +1,6 @@
 -- What is known of a call of the frame decoder that its checks accept, and of one that has a path and no forced message position.
 -- Assumes nothing.
-use mathlib.Core.Path.{_≡_, refl, sym}
+use mathlib.Core.Path.{_≡_, refl, sym, _∙_}
 use mathlib.Core.Bool.{Bool, true, false, not, _||_, false≢true}
 use Prim.Native.Nat.{ℕ, _+_, _*_, _≤_, _<_}
 use native.Mathlib.Nat.{add-zero}
@@ -8,16 +8,18 @@ use lib.ListN.{length}
 use borrow.Author.Tests.{eqb-true, leb-true}
 use Rattle.lists.specs.laws.Every.{none-upto-at}
 use Rattle.lists.specs.laws.Tests.{and-both}
-use Rattle.refusal.specs.declared.Refusal.the-variants.{Shape, Branch, Length, Lists, Value, Pattern, Mask, Iterations, Coder, NoPath, ForcedPosition}
 use Rattle.refusal.specs.declared.Reply.the-variants.{Done}
-use Rattle.refusal.specs.laws.Checks.{check-is-done, then-is-done, first-passed, passes-first}
+use Rattle.refusal.specs.Refusals.{firstOf}
+use Rattle.refusal.specs.laws.Checks.{then-is-done}
+use Rattle.refusal.specs.laws.InTurn.{first-of-both, Each, each-holds, each-done}
 use Rattle.trellis.specs.declared.End.the-variants.{Zero, Open}
+use Rattle.trellis.specs.Table.{tableChecks}
 use Rattle.trellis.specs.Limits.{channelFits}
 use Rattle.trellis.specs.Outcome.{pathless, forced}
 use Rattle.trellis.specs.laws.Returning.{LeadsBack, back-has-path, back-none-forced, open-has-path, open-none-forced}
 use Rattle.frame.specs.Frame.{Frame, tailOf, tail1, tail2, sections1, sections2, longer, frameLength}
 use Rattle.frame.specs.laws.Checked.{Framed}
-use Rattle.decoder.specs.Decoder.{DecodeCall, DecodeLent, decodeListsFit, decodeChecked, decodeWalked, decodeReply}
+use Rattle.decoder.specs.Decoder.{DecodeCall, DecodeLent, decodeListsFit, decodeLentChecks, bothWalked, bothFree, decodePathChecks, decodeChecks}
 
 pub record Decodable (c : DecodeCall) (l : DecodeLent) : Type 0 where
   pub framed : Framed (c .frame)
@@ -37,17 +39,10 @@ pub record Walkable (f : Frame) : Type 0 where
   pub free1 : (k : ℕ) → k < f .bits → forced (f .table) (f .first) (sections1 f) k ≡ false
   pub free2 : (k : ℕ) → k < f .bits → forced (f .table) (f .second) (sections2 f) k ≡ false
 
-pub decodable : (c : DecodeCall) (l : DecodeLent) → decodeChecked c l ≡ Done → Decodable c l
-unfolding decodeChecked decodeListsFit
+pub decodable : (c : DecodeCall) (l : DecodeLent) → firstOf (decodeLentChecks c l) ≡ Done → Decodable c l
+unfolding decodeLentChecks tableChecks Each decodeListsFit
 decodable c l e =
-    let (shape, after-shape) = first-passed _ Shape _ e in
-    let (branches, after-branches) = first-passed _ Branch _ after-shape in
-    let (sizes, after-sizes) = first-passed _ Length _ after-branches in
-    let (lists, after-lists) = first-passed _ Lists _ after-sizes in
-    let (values, after-values) = first-passed _ (Value _) _ after-lists in
-    let (permutes, after-pattern) = first-passed _ Pattern _ after-values in
-    let (masks, after-masks) = first-passed _ Mask _ after-pattern in
-    let (iterations, after-iterations) = first-passed _ Iterations _ after-masks in
+    let (shape, (branches, (sizes, (lists, (values, (permutes, (masks, (iterations, (codes, end))))))))) = each-holds (decodeLentChecks c l) e in
     let (to-extrinsics, work) = and-both _ _ lists in
     let (to-margins, extrinsics) = and-both _ _ to-extrinsics in
     let (to-bits, margins) = and-both _ _ to-margins in
@@ -62,7 +57,7 @@ decodable c l e =
         pattern-long = eqb-true _ _ pattern-long;
         permutes = permutes;
         masks = masks;
-        codes = check-is-done _ Coder .0 after-iterations;
+        codes = codes;
       };
       received-long = eqb-true _ _ (rw masks at frame);
       bits-long = eqb-true _ _ bits;
@@ -80,38 +75,38 @@ neither true d e = absurd (false≢true e)
 neither false true e = absurd (false≢true e)
 neither false false e = (refl, refl)
 
-pub walkable : (c : DecodeCall) → decodeWalked c ≡ Done → Walkable (c .frame)
-unfolding decodeWalked
-walkable c e =
-    let (some-path, after-paths) = first-passed _ NoPath _ e in
-    let (path1, path2) = neither _ _ some-path in
-    let (free1, free2) = neither _ _ (check-is-done _ ForcedPosition .0 after-paths) in
+pub walkable : (f : Frame) → firstOf (decodePathChecks f) ≡ Done → Walkable f
+unfolding decodePathChecks Each bothWalked bothFree
+walkable f e =
+    let (walked, (free, end)) = each-holds (decodePathChecks f) e in
+    let (path1, path2) = neither _ _ walked in
+    let (free1, free2) = neither _ _ free in
     record {
       some-path1 = path1;
       some-path2 = path2;
-      free1 = none-upto-at _ (c .frame .bits) free1;
-      free2 = none-upto-at _ (c .frame .bits) free2;
+      free1 = none-upto-at _ (f .bits) free1;
+      free2 = none-upto-at _ (f .bits) free2;
     }
 
 -- a frame with two zero ends over a table that leads back in its tail sections has a path, and none of its message positions is forced
-pub walked-back : (c : DecodeCall) → c .frame .first ≡ Zero → c .frame .second ≡ Zero → LeadsBack (c .frame .table) (c .frame .tail) → decodeWalked c ≡ Done
-unfolding decodeWalked sections1 sections2 tail1 tail2 tailOf
-walked-back c e1 e2 w =
-    let f = c .frame in
+pub walked-back : (f : Frame) → f .first ≡ Zero → f .second ≡ Zero → LeadsBack (f .table) (f .tail) → firstOf (decodePathChecks f) ≡ Done
+unfolding decodePathChecks Each bothWalked bothFree sections1 sections2 tail1 tail2 tailOf
+walked-back f e1 e2 w =
     let path = back-has-path (f .table) (f .tail) w (f .bits) in
     let free = back-none-forced (f .table) (f .tail) w (f .bits) in
-    rw (e1, e2) (sym (passes-first NoPath (rw path) (sym (check-is-done _ ForcedPosition .1 (rw free)))))
+    each-done (decodePathChecks f) (rw (e1, e2, path), (rw (e1, e2, free), tt))
 
 -- so it is with two open ends, over any table
-pub walked-open : (c : DecodeCall) → c .frame .first ≡ Open → c .frame .second ≡ Open → 0 < c .frame .table .states → decodeWalked c ≡ Done
-unfolding decodeWalked sections1 sections2 tail1 tail2 tailOf
-walked-open c e1 e2 some-state =
-    let f = c .frame in
+pub walked-open : (f : Frame) → f .first ≡ Open → f .second ≡ Open → 0 < f .table .states → firstOf (decodePathChecks f) ≡ Done
+unfolding decodePathChecks Each bothWalked bothFree sections1 sections2 tail1 tail2 tailOf
+walked-open f e1 e2 some-state =
     let path = open-has-path (f .table) some-state (f .bits) in
     let free = open-none-forced (f .table) some-state (f .bits) in
-    rw (e1, e2, add-zero (f .bits)) (sym (passes-first NoPath (rw path) (sym (check-is-done _ ForcedPosition .1 (rw free)))))
+    each-done (decodePathChecks f) (rw (e1, e2, add-zero (f .bits), path), (rw (e1, e2, add-zero (f .bits), free), tt))
 
 -- a call that is done is both
-pub done-is : (c : DecodeCall) (l : DecodeLent) → decodeReply c l ≡ Done → Decodable c l × Walkable (c .frame)
-unfolding decodeReply
-done-is c l e = let (checked, walked) = then-is-done (decodeChecked c l) (decodeWalked c) .0 e in (decodable c l checked, walkable c walked)
+pub done-is : (c : DecodeCall) (l : DecodeLent) → firstOf (decodeChecks c l) ≡ Done → Decodable c l × Walkable (c .frame)
+unfolding decodeChecks
+done-is c l e =
+    let (checked, walked) = then-is-done _ _ .0 (sym (first-of-both (decodeLentChecks c l) (decodePathChecks (c .frame))) ∙ e) in
+    (decodable c l checked, walkable (c .frame) walked)

@@ -41,6 +41,10 @@ unfolding chained firstOf
 chained-is [] d = done-after (check (d .holds) (d .refusal)) refl
 chained-is (c ∷ cs) d = ap (λ (r : Reply). check (c .holds) (c .refusal) then r) (chained-is cs d)
 
+-- so too where the first is a reply of its own
+pub chained-after : (c : Check) (cs : List Check) (d : Check) → (firstOf (c ∷ []) then chained cs d) ≡ firstOf (c ∷ cs ++ (d ∷ []))
+chained-after c cs d = ap (λ (r : Reply). firstOf (c ∷ []) then r) (chained-is cs d) ∙ sym (first-of-both (c ∷ []) (cs ++ (d ∷ [])))
+
 -- ---- done
 
 -- each test of a list holds, one after the other
