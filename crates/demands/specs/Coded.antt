@@ -1,16 +1,19 @@
--- What the coder writes, over the paths of each coder's end: a frame for a message.
+-- Demand 2 for the coder, the statement: what a whole call is, over the paths of each coder's end; and what it writes, a frame for a message.
 -- Assumes nothing.
 use mathlib.Core.Path.{_≡_}
+use mathlib.Core.Logic.{_↔_}
 use mathlib.Core.Bool.{false, cond}
 use mathlib.Core.List.{List, _++_}
 use Prim.Native.Nat.{ℕ, _<_}
 use lib.ListN.{length, getD}
+use Rattle.refusal.specs.declared.Refusal.the-variants.{NoTail}
+use Rattle.refusal.specs.declared.Reply.the-variants.{Done, Refused}
 use Rattle.trellis.specs.declared.End.{End}
 use Rattle.trellis.specs.Path.{TrellisPath}
 use Rattle.trellis.specs.Best.{IsBits, IsPath}
 use Rattle.frame.specs.Interleaver.{interleave}
 use Rattle.frame.specs.Frame.{Frame, sectionsOf, frameLength, flags, spread}
-use Rattle.coder.specs.Coder.{places}
+use Rattle.coder.specs.Coder.{places, EncodeCall, EncodeResult}
 use Rattle.coder.specs.Tail.{Before}
 
 -- a path of a coder's end that begins with its own inputs; where there is none, 14
@@ -39,3 +42,17 @@ pub record IsFrame (f : Frame) (message sent : List ℕ) : Type 0 where
   pub second-coder : IsCoderPath f (f .second) (interleave 0 (f .pattern) message) second
   pub long : length sent ≡ frameLength f
   pub in-place : (i : ℕ) → getD (spread 0 (flags f) sent) i 0 ≡ cond (getD (flags f) i false) (getD (places f first second) i 0) 0
+
+-- each coder has a path of its end with its own inputs
+abbrev pub BothOwnPaths : EncodeCall → Type 0
+BothOwnPaths c =
+    let f = c .frame in
+    SomeOwnPath f (f .first) (c .message) × SomeOwnPath f (f .second) (interleave 0 (f .pattern) (c .message))
+
+-- what a call with no refusal but 14 comes to: 14 is given exactly where not each coder has a path of its end with its own inputs, and otherwise the
+-- list holds a frame for the message
+pub record IsCoding (c : EncodeCall) (lent : List ℕ) (result : EncodeResult) : Type 0 where
+  pub no-tail : (result .reply ≡ Refused NoTail) ↔ (BothOwnPaths c → ⊥)
+  pub done : (result .reply ≡ Done) ↔ BothOwnPaths c
+  pub written : result .reply ≡ Done → IsFrame (c .frame) (c .message) (result .sent)
+  pub kept : (result .reply ≡ Done → ⊥) → result .sent ≡ lent

@@ -7,6 +7,7 @@ pub mod Determined
 pub mod Forced
 pub mod CoderPaths
 pub mod EveryFrame
+pub mod EveryCoding
 pub mod RightPass
 pub mod Outputs
 pub mod Received

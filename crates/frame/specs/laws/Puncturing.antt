@@ -118,3 +118,18 @@ module _ {A : Type 0} where
     spread-punctured (true ∷ fs) (x ∷ xs) (suc i) e = spread-punctured fs xs i (suc-inj e)
     spread-punctured (false ∷ fs) (x ∷ xs) zero e = refl
     spread-punctured (false ∷ fs) (x ∷ xs) (suc i) e = spread-punctured fs xs i (suc-inj e)
+
+    -- and puncturing what was spread gives it back, where there is a value for each place that is sent
+    punctured-spread : (fs : List Bool) (xs : List A) → length xs ≡ count (λ (b : Bool). b) fs → puncture fs (spread d fs xs) ≡ xs
+    unfolding spread puncture count
+    punctured-spread [] [] e = refl
+    punctured-spread [] (x ∷ xs) e = absurd (suc-ne-zero (length xs) e)
+    punctured-spread (true ∷ fs) [] e = absurd (suc-ne-zero (count set? fs) (sym e))
+    punctured-spread (true ∷ fs) (x ∷ xs) e = ap (λ (l : List A). x ∷ l) (punctured-spread fs xs (suc-inj e))
+    punctured-spread (false ∷ fs) xs e = punctured-spread fs xs e
+
+    -- so two such lists that are spread alike are the same
+    pub spread-injective :
+        (fs : List Bool) (xs ys : List A) → length xs ≡ count (λ (b : Bool). b) fs → length ys ≡ count (λ (b : Bool). b) fs → spread d fs xs ≡ spread d fs ys →
+        xs ≡ ys
+    spread-injective fs xs ys long also e = sym (punctured-spread fs xs long) ∙ ap (puncture fs) e ∙ punctured-spread fs ys also
