@@ -1,14 +1,14 @@
 -- What a program in another language gets back from a call: the reply's number, 0 where the call is done, the lists that it lent, and from the decoders the
 -- index of the first value out of range. And which numbers stand for an end.
 -- Assumes nothing.
-use mathlib.Core.List.{List}
+use mathlib.Core.List.{List, [], _∷_}
 use Prim.Native.Nat.{ℕ, zero, suc}
 use lib.Dec.{eqb}
 use lib.ListN.{length}
 use Rattle.trellis.specs.declared.End.{End}
 use Rattle.trellis.specs.declared.End.the-variants.{Zero, Open, Ring}
 use Rattle.refusal.specs.declared.Refusal.the-variants.{Lists}
-use Rattle.refusal.specs.Refusals.{numberOf, placeOf, check, after}
+use Rattle.refusal.specs.Refusals.{numberOf, placeOf, Check, _unless_, firstOf, after}
 use Rattle.taps.specs.Build.{TapsLent, TapsResult}
 use Rattle.siso.specs.Decode.{Lent, Result}
 use Rattle.polynomial.specs.Polynomial.{PatternResult}
@@ -70,7 +70,10 @@ module _ {A : Type 0} where
   byEnds n m refused answer = byEnd n refused (λ first. byEnd m refused (answer first))
 
 -- entries written to a list: 5 where it is not as long, and then it is as it was
+unfoldable pub writtenChecks : List ℕ → List ℕ → List Check
+writtenChecks entries list = Lists unless eqb (length list) (length entries) ∷ []
+
 unfoldable pub written : List ℕ → List ℕ → Returned (List ℕ)
 written entries list =
-    let r = check (eqb (length list) (length entries)) Lists in
+    let r = firstOf (writtenChecks entries list) in
     returned (numberOf r) (after r entries list)

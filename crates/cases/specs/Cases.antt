@@ -49,20 +49,20 @@ unfolding
     bind Option·elim orElse getLastD ones
     ByIndex.listed ByIndex.joined ByIndex.keep ByIndex.every ByIndex.any ByIndex.firstFailing ByIndex.count ByIndex.isEmpty ByIndex.found ByIndex.upto
     Integers.maxℤ Integers.minℤ Integers.inside Integers.limited Integers.half
-    Refusals.told Refusals.numberOf Refusals.check Refusals._then_ Refusals.after Refusals.cleared
+    Refusals.told Refusals.numberOf Refusals.check Refusals._then_ Refusals.firstOf Refusals.after Refusals.cleared
     Limits.sectionsFit Limits.channelFits Limits.aprioriFits Limits.firstOutside
     Outcome.larger Outcome.greatest Outcome.best Outcome.outcomeOf Outcome.outcome Outcome.pathless Outcome.forced Outcome.mark Outcome.margin Outcome.systematicAt Outcome.intrinsic Outcome.extrinsic Outcome.positionOf Outcome.position Outcome.marks Outcome.margins Outcome.extrinsics
     Path.aprioriAt Path.channelAt Path.signed Path.wordMetric Path.branchMetric Path.metricFrom Path.finish Path.metric Path.allBits Path.terminating Path.admits Path.allPaths Path.paths Path.class
-    Table.nextState Table.word Table.output Table.systematic Table.shaped Table.branched
-    Lone.listsFit Lone.checked Lone.walked Lone.reply Lone.settled Lone.decode
-    Coder.tailFrom Coder.ringStart Coder.codedPath Coder.parityAt Coder.sectionAt Coder.places Coder.sentFor Coder.encodeListsFit Coder.encodeChecked Coder.tailed Coder.encodeReply Coder.encodeSettled Coder.encode
-    Decoder.handOver Decoder.decided Decoder.channel1Under Decoder.channel1 Decoder.channel2Under Decoder.channel2 Decoder.pass Decoder.handOn Decoder.handBack Decoder.handedOn Decoder.iteration Decoder.priorAfter Decoder.lastPass Decoder.decodeListsFit Decoder.decodeChecked Decoder.decodeWalked Decoder.decodeReply Decoder.decodeSettled Decoder.decode
+    Table.nextState Table.word Table.output Table.systematic Table.shaped Table.branched Table.tableChecks
+    Lone.listsFit Lone.lentChecks Lone.pathChecks Lone.checks Lone.settled Lone.decode
+    Coder.tailFrom Coder.ringStart Coder.codedPath Coder.parityAt Coder.sectionAt Coder.places Coder.sentFor Coder.encodeListsFit Coder.encodeLentChecks Coder.encodePathChecks Coder.encodeChecks Coder.encodeSettled Coder.encode
+    Decoder.handOver Decoder.decided Decoder.channel1Under Decoder.channel1 Decoder.channel2Under Decoder.channel2 Decoder.pass Decoder.handOn Decoder.handBack Decoder.handedOn Decoder.iteration Decoder.priorAfter Decoder.lastPass Decoder.decodeListsFit Decoder.decodeLentChecks Decoder.bothWalked Decoder.bothFree Decoder.decodePathChecks Decoder.decodeChecks Decoder.decodeSettled Decoder.decode
     Frame.tailOf Frame.tail1 Frame.tail2 Frame.sections1 Frame.sections2 Frame.longer Frame.sizesFit Frame.masksFit Frame.codes Frame.maskAt Frame.maskFlags Frame.onesTo Frame.lengthUnder Frame.frameLength Frame.flagsUnder Frame.flags Frame.puncture Frame.spread
     House.houseParity House.houseNext House.house
     Interleaver.permutes Interleaver.place Interleaver.interleave Interleaver.deinterleave
     Decimal.numeral Decimal.natural Decimal.opposite Decimal.integer Decimal.digitsIn Decimal.digits Decimal.decimal
     Rows.fieldAt Rows.dash Rows.valueOrUnsent Rows.starts Rows.messageRow Rows.tailRow
-    Sheet.linesOf Sheet.lastPiece Sheet.rowCount Sheet.messageBits Sheet.lineFits Sheet.faultFrom Sheet.firstFault Sheet.textReply Sheet.messageAt Sheet.tailAt Sheet.valuesOf Sheet.callOf Sheet.lentFor Sheet.rowValues Sheet.loudLine Sheet.valueReply Sheet.refusalText Sheet.resultLine Sheet.resultText Sheet.printed Sheet.answer
+    Sheet.linesOf Sheet.lastPiece Sheet.rowCount Sheet.messageBits Sheet.lineFits Sheet.faultFrom Sheet.firstFault Sheet.faultLine Sheet.sizeFits Sheet.textChecks Sheet.messageAt Sheet.tailAt Sheet.valuesOf Sheet.callOf Sheet.lentFor Sheet.rowValues Sheet.loudLine Sheet.sheetChecks Sheet.refusalText Sheet.resultLine Sheet.resultText Sheet.printed Sheet.answer
     Text.bytes Text.onFirst Text.cut Text.same
 computed (lonePass c l r) = lonePass c l (Lone.decode c l)
 computed (sheet s a) = sheet s (Sheet.answer s)

@@ -1,23 +1,46 @@
--- What a sheet is answered with (document 01, "Sheet"; document 02, request 2), the statement: what is printed for it, byte by byte. It is a refusal by 1,
--- 6 or 8, where 6 names the line of the first value outside its limits, or a result of exactly K lines after its header.
+-- What a sheet is answered with (document 01, "Sheet"; document 02, request 2), the statement: what is printed for it, byte by byte. It is refused by the
+-- first of its rules that is broken, with its line; otherwise what is printed, line by line, are the bit, margin and extrinsic of a decoding of its frame.
 -- Assumes nothing.
 use mathlib.Core.Path.{_≡_}
-use mathlib.Core.Bool.{true, false}
+use mathlib.Core.Bool.{Bool, true, false, not}
 use mathlib.Core.Logic.{_⊎_, _≢_}
-use mathlib.Core.List.{List, [], _∷_, _++_, List·Memᴰ}
-use Prim.Native.Nat.{ℕ, _+_, _<_}
+use mathlib.Core.List.{List, [], _∷_, _++_}
+use Prim.Native.Nat.{ℕ, suc, _+_, _<_}
 use lib.Dec.{eqb}
-use lib.IntN.{ℤ}
-use lib.ListN.{getD}
-use Rattle.lists.specs.Lists.{joined, count}
+use lib.ListN.{length, getD}
+use Rattle.lists.specs.Lists.{joined, count, isEmpty, found}
 use Rattle.text.specs.Text.{bytes, lineFeed}
-use Rattle.text.specs.Decimal.{digits, decimal}
+use Rattle.text.specs.Decimal.{digits}
+use Rattle.refusal.specs.declared.Refusal.{Refusal}
+use Rattle.refusal.specs.declared.Refusal.the-variants.{Text, Value, Pattern}
+use Rattle.refusal.specs.declared.Reply.the-variants.{Done}
+use Rattle.refusal.specs.Refusals.{told, Check, _unless_}
+use Rattle.refusal.specs.Replied.{allHold, IsFirstToFail}
 use Rattle.trellis.specs.Limits.{channelFits}
-use Rattle.sheet.specs.Sheet.{messageBits, rowValues}
+use Rattle.frame.specs.Interleaver.{permutes}
+use Rattle.decoder.specs.Decoder.{DecodeResult}
+use Rattle.sheet.specs.Sheet.{linesOf, lastPiece, messageBits, lineFits, firstFault, faultLine, sizeFits, valuesOf, callOf, lentFor, rowValues, loudLine, resultLine}
+use Rattle.demands.specs.Decoding.{IsDecoding}
 
--- the numbers that a sheet is refused by
-abbrev pub sheetNumbers : List ℕ
-sheetNumbers = 1 ∷ 6 ∷ 8 ∷ []
+-- ---- refused
+
+-- the rules of a sheet, in their order: its size, its lines, its values, its pattern
+unfoldable pub sheetRules : List ℕ → List Check
+sheetRules sheet =
+    Text 0 unless sizeFits sheet
+    ∷ Text (faultLine sheet) unless not (found (firstFault sheet))
+    ∷ Value (loudLine sheet) unless channelFits (valuesOf sheet)
+    ∷ Pattern unless permutes (messageBits sheet) (callOf sheet .frame .pattern)
+    ∷ []
+
+-- the first faulty line, the header being 1: that line breaks the rules, or it is a last piece without its line feed, and no line before it does
+pub record IsFaultyLine (sheet : List ℕ) (line : ℕ) : Type 0 where
+  pub index : ℕ
+  pub from-one : line ≡ suc index
+  pub faulty :
+      ((index < length (linesOf sheet)) × (lineFits (messageBits sheet) index (getD (linesOf sheet) index []) ≡ false))
+      ⊎ ((index ≡ length (linesOf sheet)) × (isEmpty (lastPiece sheet) ≡ false))
+  pub fit-before : (i : ℕ) → i < index → lineFits (messageBits sheet) i (getD (linesOf sheet) i []) ≡ true
 
 -- the line of the first value outside its limits, row by row: the row there has one, and no row before it has. The header is line 1
 pub record IsLoudLine (sheet : List ℕ) (line : ℕ) : Type 0 where
@@ -27,30 +50,26 @@ pub record IsLoudLine (sheet : List ℕ) (line : ℕ) : Type 0 where
   pub outside : channelFits (getD (rowValues sheet) row []) ≡ false
   pub inside-before : (i : ℕ) → i < row → channelFits (getD (rowValues sheet) i []) ≡ true
 
--- a refusal: the number and the line, which is that of the value for 6, and 0 for every other number but 1
+-- a refusal: that of the first rule that is broken, and what is printed are its number and its line
 pub record IsRefusal (sheet text : List ℕ) : Type 0 where
-  pub number : ℕ
-  pub line : ℕ
-  pub one-of : List·Memᴰ number sheetNumbers
-  pub loud : number ≡ 6 → IsLoudLine sheet line
-  pub lineless : number ≢ 1 → number ≢ 6 → line ≡ 0
-  pub whole : text ≡ bytes "refused line\n" ++ digits number ++ bytes " " ++ digits line ++ bytes "\n"
+  pub refusal : Refusal
+  pub first : IsFirstToFail (sheetRules sheet) refusal
+  pub faulty : (line : ℕ) → refusal ≡ Text line → line ≢ 0 → IsFaultyLine sheet line
+  pub loud : (line : ℕ) → refusal ≡ Value line → IsLoudLine sheet line
+  pub whole : text ≡ bytes "refused line\n" ++ digits (told refusal .number) ++ bytes " " ++ digits (told refusal .place) ++ bytes "\n"
 
--- the line of message position k: its bit, margin and extrinsic
-pub record IsLine (k : ℕ) (line : List ℕ) : Type 0 where
-  pub bit : ℕ
-  pub margin : ℤ
-  pub extrinsic : ℤ
-  pub is-bit : bit < 2
-  pub whole : line ≡ digits k ++ bytes " " ++ digits bit ++ bytes " " ++ decimal margin ++ bytes " " ++ decimal extrinsic ++ bytes "\n"
+-- ---- decoded
 
--- a result for K message positions: the header, K lines, and nothing else. No other line feed is in it
-pub record IsResult (k : ℕ) (text : List ℕ) : Type 0 where
-  pub line : ℕ → List ℕ
-  pub is-line : (i : ℕ) → i < k → IsLine i (line i)
-  pub whole : text ≡ bytes "at bit margin extrinsic\n" ++ joined line k
-  pub line-feeds : count (λ b. eqb b lineFeed) text ≡ k + 1
+-- a result: no rule is broken, and what is printed are a header and a line for each message position, its bit, margin and extrinsic those of a decoding of
+-- the sheet's frame. No other line feed is in it
+pub record IsResult (sheet text : List ℕ) : Type 0 where
+  pub unbroken : allHold (sheetRules sheet) ≡ true
+  pub result : DecodeResult
+  pub decoding : IsDecoding (callOf sheet) (lentFor sheet) result
+  pub done : result .reply ≡ Done
+  pub whole : text ≡ bytes "at bit margin extrinsic\n" ++ joined (resultLine (result .lists)) (messageBits sheet)
+  pub line-feeds : count (λ b. eqb b lineFeed) text ≡ messageBits sheet + 1
 
 -- an answer to a sheet: the one or the other
 unfoldable pub IsAnswer : List ℕ → List ℕ → Type 0
-IsAnswer sheet text = IsRefusal sheet text ⊎ IsResult (messageBits sheet) text
+IsAnswer sheet text = IsRefusal sheet text ⊎ IsResult sheet text

@@ -6,4 +6,6 @@ pub mod Message
 pub mod Answered
 pub mod Codes
 pub mod Placed
+pub mod Called
+pub mod CalledFromC
 pub mod laws

@@ -1,28 +1,23 @@
--- Where the bad value sits (document 02, request 2), the statement: what 6 and 16 and the index beside them say of the lists lent to a call, and when they
--- are given.
+-- Where the bad value sits (document 02, request 2), the statement: when 6 and 16 are given, and which value of the lists lent to a call the index beside
+-- them is that of.
 -- Assumes nothing.
 use mathlib.Core.Path.{_≡_}
-use mathlib.Core.Logic.{_⊎_}
+use mathlib.Core.Logic.{_↔_}
 use mathlib.Core.Bool.{true}
-use mathlib.Core.List.{List, [], _∷_, List·Memᴰ}
+use mathlib.Core.List.{List, [], _∷_, map}
 use Prim.Native.Nat.{ℕ}
 use lib.IntN.{ℤ}
 use Rattle.refusal.specs.declared.Refusal.the-variants.{Value, Apriori}
 use Rattle.refusal.specs.declared.Reply.{Reply}
 use Rattle.refusal.specs.declared.Reply.the-variants.{Refused}
-use Rattle.refusal.specs.Refusals.{numberOf}
+use Rattle.refusal.specs.Refusals.{told, Check}
+use Rattle.refusal.specs.Replied.{allHold}
 use Rattle.trellis.specs.Limits.{channelLimit, aprioriLimit, channelFits, IsFirstOutside}
 
--- the numbers that stand before 6 in a decoder's checks
-abbrev pub numbersBefore6 : List ℕ
-numbersBefore6 = 2 ∷ 3 ∷ 4 ∷ 5 ∷ []
-
--- 6 speaks of the channel values alone and has the index of the first such value in its list. 16 has the index of the first such a-priori value, and stands
--- after 6: no channel value is outside its limits. And a call that has such a value is answered so, or by a number that stands before 6
-pub record IsPlaced (channel apriori : List ℤ) (r : Reply) : Type 0 where
-  pub value : (i : ℕ) → r ≡ Refused (Value i) → IsFirstOutside channelLimit channel i
-  pub apriori-value : (i : ℕ) → r ≡ Refused (Apriori i) → IsFirstOutside aprioriLimit apriori i
-  pub after-6 : (i : ℕ) → r ≡ Refused (Apriori i) → channelFits channel ≡ true
-  pub value-told : (i : ℕ) → IsFirstOutside channelLimit channel i → (r ≡ Refused (Value i)) ⊎ List·Memᴰ (numberOf r) numbersBefore6
-  pub apriori-told : (i : ℕ) → channelFits channel ≡ true → IsFirstOutside aprioriLimit apriori i →
-      (r ≡ Refused (Apriori i)) ⊎ List·Memᴰ (numberOf r) numbersBefore6
+-- 6 is given exactly where the checks before it, of 2, 3, 4 and 5, hold and a channel value is outside its limits, and the index is that of the first such
+-- value in its list. 16 stands after 6, and is the same of the a-priori values
+pub record IsPlaced (before : List Check) (channel apriori : List ℤ) (r : Reply) : Type 0 where
+  pub numbered : map (λ c. told (c .refusal) .number) before ≡ 2 ∷ 3 ∷ 4 ∷ 5 ∷ []
+  pub value : (i : ℕ) → (r ≡ Refused (Value i)) ↔ ((allHold before ≡ true) × IsFirstOutside channelLimit channel i)
+  pub apriori-value : (i : ℕ) →
+      (r ≡ Refused (Apriori i)) ↔ ((allHold before ≡ true) × ((channelFits channel ≡ true) × IsFirstOutside aprioriLimit apriori i))

@@ -16,7 +16,10 @@ pub mod Leaning
 pub mod Passes
 pub mod RightIterations
 pub mod RightSigned
+pub mod FaultyLines
 pub mod EverySheet
+pub mod EveryCall
+pub mod EveryCallFromC
 pub mod Always
 pub mod Tailed
 pub mod EveryCode

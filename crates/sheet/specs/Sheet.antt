@@ -1,6 +1,6 @@
 -- A sheet (document 01, "Sheet"): from its bytes to a refusal with its line, or to a frame; from the result to the bytes printed.
 -- Assumes nothing.
-use mathlib.Core.Bool.{Bool, cond, _&&_}
+use mathlib.Core.Bool.{Bool, cond, not, _&&_}
 use mathlib.Core.List.{List, [], _∷_, _++_, dropLast, getLastD}
 use mathlib.Core.Option.{Option, none, some, Option·getD, Option·elim, orElse}
 use Prim.Native.Nat.{ℕ, zero, suc, _+_, _-_, _*_, _≤_}
@@ -14,11 +14,11 @@ use Rattle.refusal.specs.declared.Refusal.{Refusal}
 use Rattle.refusal.specs.declared.Refusal.the-variants.{Text, Value}
 use Rattle.refusal.specs.declared.Reply.{Reply}
 use Rattle.refusal.specs.declared.Reply.the-variants.{Done, Refused}
-use Rattle.refusal.specs.Refusals.{told, check, _then_}
+use Rattle.refusal.specs.Refusals.{told, Check, _unless_, firstOf}
 use Rattle.trellis.specs.declared.End.the-variants.{Zero}
 use Rattle.trellis.specs.Limits.{channelFits}
 use Rattle.house.specs.House.{house}
-use Rattle.decoder.specs.Decoder.{DecodeCall, DecodeLent, decode}
+use Rattle.decoder.specs.Decoder.{DecodeCall, DecodeLent, decodeChecks, decode}
 use Rattle.sheet.specs.Rows.{MessageRow, TailRow, messageRow, tailRow}
 
 -- ---- lines and rows
@@ -55,11 +55,17 @@ unfoldable pub firstFault : List ℕ → Option ℕ
 firstFault sheet =
     orElse (faultFrom (messageBits sheet) 0 (linesOf sheet)) (cond (isEmpty (lastPiece sheet)) none (some (length (linesOf sheet))))
 
--- a sheet too long or with rows outside 3..514 comes first, with line 0; otherwise the first faulty line stands, the header being 1
-unfoldable pub textReply : List ℕ → Reply
-textReply sheet =
-    check (leb (length sheet) 16384 && leb 3 (rowCount sheet) && leb (rowCount sheet) 514) (Text 0)
-    then Option·elim (firstFault sheet) Done (λ i. Refused (Text (suc i)))
+-- the same, the header being 1; 0 where there is none
+unfoldable pub faultLine : List ℕ → ℕ
+faultLine sheet = Option·elim (firstFault sheet) 0 suc
+
+-- a sheet has at most 16,384 bytes and 3..514 rows
+unfoldable pub sizeFits : List ℕ → Bool
+sizeFits sheet = leb (length sheet) 16384 && leb 3 (rowCount sheet) && leb (rowCount sheet) 514
+
+-- the checks of the text: its size comes first, with line 0, then the first faulty line
+unfoldable pub textChecks : List ℕ → List Check
+textChecks sheet = Text 0 unless sizeFits sheet ∷ Text (faultLine sheet) unless not (found (firstFault sheet)) ∷ []
 
 -- ---- the frame. (The zeros that stand for a row which is none are met only where the text is refused.)
 
@@ -123,8 +129,8 @@ rowValues sheet = listed (messageValues sheet) (messageBits sheet) ++ listed (ta
 unfoldable pub loudLine : List ℕ → ℕ
 loudLine sheet = firstFailing channelFits (rowValues sheet) + 2
 
-unfoldable pub valueReply : List ℕ → Reply
-valueReply sheet = check (channelFits (valuesOf sheet)) (Value (loudLine sheet))
+abbrev pub lineCheck : List ℕ → Check
+lineCheck sheet = Value (loudLine sheet) unless channelFits (valuesOf sheet)
 
 -- ---- the answer
 
@@ -145,11 +151,13 @@ unfoldable pub printed : Reply → DecodeLent → List ℕ
 printed Done l = resultText l
 printed (Refused r) l = refusalText r
 
--- what the program prints for a sheet: 1, then 6 with its line, stand before every other number that the frame decoder gives
+-- all checks of a sheet: 1, then 6 with its line, stand before every other number that the frame decoder gives
+unfoldable pub sheetChecks : List ℕ → List Check
+sheetChecks sheet = textChecks sheet ++ (lineCheck sheet ∷ decodeChecks (callOf sheet) (lentFor sheet))
+
+-- what the program prints for a sheet
 unfoldable pub answer : List ℕ → List ℕ
-answer sheet =
-    let result = decode (callOf sheet) (lentFor sheet) in
-    printed (textReply sheet then valueReply sheet then result .reply) (result .lists)
+answer sheet = printed (firstOf (sheetChecks sheet)) (decode (callOf sheet) (lentFor sheet) .lists)
 
 -- a text that is not empty and fits on a page, as every answer does
 pub record FitsPage (text : List ℕ) : Type 0 where

@@ -5,8 +5,8 @@ ghost use mathlib.Core.Path.{_≡_};
 ghost use Prim.Native.Nat.{_+_, _-_, _≤_};
 ghost use lib.Dec.{leb, ltb};
 ghost use lib.ListN.{length};
-ghost use Rattle.refusal.specs.Refusals.{placeOf};
-ghost use Rattle.sheet.specs.Sheet.{linesOf, lineFits, faultFrom, textReply};
+ghost use Rattle.refusal.specs.Refusals.{placeOf, firstOf};
+ghost use Rattle.sheet.specs.Sheet.{linesOf, lineFits, faultFrom, textChecks};
 use crate::lines::pieces;
 use crate::rows::message;
 use crate::rows::tail;
@@ -63,7 +63,7 @@ fn row_count(lines: usize, last: usize, length: usize) -> usize
 
 // 1 with its line, or nothing to say of the text.
 pub fn text_reply(sheet: &[u8]) -> Reply
-    ensures { λ r. ⌜ r ≡ textReply (now (sheet .entry)) ⌝ }
+    ensures { λ r. ⌜ r ≡ firstOf (textChecks (now (sheet .entry))) ⌝ }
     ensures { λ r. ⌜ placeOf r ≤ 516 ⌝ }
 {
     let cut = pieces(sheet, 10);

@@ -5,8 +5,8 @@ use mathlib.Core.List.{List}
 use Prim.Native.Nat.{ℕ}
 use lib.ListN.{length}
 use borrow.Author.Tests.{eq-eqb, ne-eqb}
-use Rattle.refusal.specs.Refusals.{numberOf, check, after, told}
-use Rattle.capi.specs.Returned.{Returned, returned, indexed, written}
+use Rattle.refusal.specs.Refusals.{told, numberOf, check, _then_, firstOf, after}
+use Rattle.capi.specs.Returned.{Returned, returned, indexed, writtenChecks, written}
 
 pub same-number : {A : Type 0} {n m : ℕ} {lists : A} → n ≡ m → returned n lists ≡ returned m lists
 same-number {A} {n} {m} {lists} e = ap (λ (k : ℕ). returned k lists) e
@@ -18,9 +18,9 @@ pub same-entries : {xs ys : List ℕ} (list : List ℕ) → xs ≡ ys → writte
 same-entries list e = ap (λ (zs : List ℕ). written zs list) e
 
 pub written-done : (xs list : List ℕ) → length list ≡ length xs → written xs list ≡ returned 0 xs
-unfolding written check numberOf after
+unfolding written writtenChecks firstOf check _then_ numberOf after
 written-done xs list e = rw (eq-eqb _ _ e)
 
 pub written-refused : (xs list : List ℕ) → (length list ≡ length xs → ⊥) → written xs list ≡ returned 5 list
-unfolding written check numberOf after told
+unfolding written writtenChecks firstOf check _then_ numberOf after told
 written-refused xs list h = rw (ne-eqb _ _ h)

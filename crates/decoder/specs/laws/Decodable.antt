@@ -1,6 +1,6 @@
 -- What is known of a call of the frame decoder that its checks accept, and of one that has a path and no forced message position.
 -- Assumes nothing.
-use mathlib.Core.Path.{_≡_, refl, sym, _∙_}
+use mathlib.Core.Path.{_≡_, refl}
 use mathlib.Core.Bool.{Bool, true, false, not, _||_, false≢true}
 use Prim.Native.Nat.{ℕ, _+_, _*_, _≤_, _<_}
 use native.Mathlib.Nat.{add-zero}
@@ -10,8 +10,7 @@ use Rattle.lists.specs.laws.Every.{none-upto-at}
 use Rattle.lists.specs.laws.Tests.{and-both}
 use Rattle.refusal.specs.declared.Reply.the-variants.{Done}
 use Rattle.refusal.specs.Refusals.{firstOf}
-use Rattle.refusal.specs.laws.Checks.{then-is-done}
-use Rattle.refusal.specs.laws.InTurn.{first-of-both, Each, each-holds, each-done}
+use Rattle.refusal.specs.laws.InTurn.{both-done, Each, each-holds, each-done}
 use Rattle.trellis.specs.declared.End.the-variants.{Zero, Open}
 use Rattle.trellis.specs.Table.{tableChecks}
 use Rattle.trellis.specs.Limits.{channelFits}
@@ -108,5 +107,5 @@ walked-open f e1 e2 some-state =
 pub done-is : (c : DecodeCall) (l : DecodeLent) → firstOf (decodeChecks c l) ≡ Done → Decodable c l × Walkable (c .frame)
 unfolding decodeChecks
 done-is c l e =
-    let (checked, walked) = then-is-done _ _ .0 (sym (first-of-both (decodeLentChecks c l) (decodePathChecks (c .frame))) ∙ e) in
+    let (checked, walked) = both-done (decodeLentChecks c l) (decodePathChecks (c .frame)) e in
     (decodable c l checked, walkable (c .frame) walked)

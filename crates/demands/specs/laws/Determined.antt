@@ -12,13 +12,14 @@ use lib.Seq.{ext-getD}
 use Rattle.refusal.specs.declared.Refusal.{Refusal}
 use Rattle.refusal.specs.declared.Reply.{Reply}
 use Rattle.refusal.specs.declared.Reply.the-variants.{Done, Refused}
+use Rattle.refusal.specs.Refusals.{firstOf}
 use Rattle.refusal.specs.laws.Checks.{refused-is-not-done}
 use Rattle.trellis.specs.declared.End.{End}
 use Rattle.trellis.specs.Path.{aprioriAt}
 use Rattle.frame.specs.Interleaver.{place}
 use Rattle.frame.specs.laws.Interleaving.{Permutes}
 use Rattle.frame.specs.Frame.{Frame, sectionsOf}
-use Rattle.decoder.specs.Decoder.{handOver, decided, channel1, channel2, DecodeCall, DecodeLent, DecodeResult, decodeChecked, decode}
+use Rattle.decoder.specs.Decoder.{handOver, decided, channel1, channel2, DecodeCall, DecodeLent, DecodeResult, decodeLentChecks, decode}
 use Rattle.decoder.specs.laws.Decodable.{Decodable, decodable}
 use Rattle.frame.specs.laws.Checked.{checked}
 use Rattle.demands.specs.Decoding.{Pass, marginAt, extrinsicAt, IsPass, patternAt, AreIterations, AreWritten, AreKept, BothPaths, EitherEmpty, IsDecoding}
@@ -165,7 +166,7 @@ module _ (c : DecodeCall) (l : DecodeLent) (known : Decodable c l) (x y : Decode
       }
 
 -- of a call to which no number but 12 or 13 applies, the decoder's result is the only one that the statement allows
-pub decoding-exactly : (c : DecodeCall) (l : DecodeLent) → decodeChecked c l ≡ Done → (x : DecodeResult) → IsDecoding c l x ↔ (x ≡ decode c l)
+pub decoding-exactly : (c : DecodeCall) (l : DecodeLent) → firstOf (decodeLentChecks c l) ≡ Done → (x : DecodeResult) → IsDecoding c l x ↔ (x ≡ decode c l)
 decoding-exactly c l passed x =
     let is = every-decoding-means c l passed in
     (λ h. same-result c l (decodable c l passed) x (decode c l) h is, λ e. rw e is)

@@ -10,6 +10,7 @@ use lib.ListN.{length, getD}
 use lib.Seq.{ext-getD}
 use Rattle.lists.specs.Lists.{found, count}
 use Rattle.refusal.specs.declared.Reply.the-variants.{Done}
+use Rattle.refusal.specs.Refusals.{firstOf}
 use Rattle.refusal.specs.laws.Checks.{refused-is-not-done}
 use Rattle.trellis.specs.declared.End.{End}
 use Rattle.trellis.specs.Path.{TrellisPath}
@@ -18,7 +19,7 @@ use Rattle.frame.specs.Frame.{Frame, tail1, tail2, frameLength, flags, spread}
 use Rattle.frame.specs.laws.Flags.{flags-set}
 use Rattle.frame.specs.laws.Puncturing.{spread-length, spread-injective}
 use Rattle.frame.specs.laws.Checked.{Framed, checked}
-use Rattle.coder.specs.Coder.{places, sentFor, EncodeCall, EncodeResult, encodeChecked, encode}
+use Rattle.coder.specs.Coder.{places, sentFor, EncodeCall, EncodeResult, encodeLentChecks, encode}
 use Rattle.coder.specs.laws.Encoded.{codable}
 use Rattle.demands.specs.Coded.{IsCoderPath, IsFrame, BothOwnPaths, IsCoding}
 use Rattle.demands.specs.laws.Told.{Tells}
@@ -57,7 +58,7 @@ module _ (f : Frame) (framed : Framed f) where
 
 -- ---- the whole call
 
-module _ (c : EncodeCall) (sent : List ℕ) (passed : encodeChecked c sent ≡ Done) (x y : EncodeResult)
+module _ (c : EncodeCall) (sent : List ℕ) (passed : firstOf (encodeLentChecks c sent) ≡ Done) (x y : EncodeResult)
     (one : IsCoding c sent x) (other : IsCoding c sent y) where
   same-replied : (x .reply ≡ y .reply) × (x .sent ≡ y .sent)
   same-replied = go (found (sentFor (c .frame) (c .message))) (both-own-told c sent passed)
@@ -78,7 +79,7 @@ module _ (c : EncodeCall) (sent : List ℕ) (passed : encodeChecked c sent ≡ D
       λ i. record { reply = reply i; sent = list i }
 
 -- of a call to which no number but 14 applies, the coder's result is the only one that the statement allows
-pub coding-exactly : (c : EncodeCall) (sent : List ℕ) → encodeChecked c sent ≡ Done → (x : EncodeResult) → IsCoding c sent x ↔ (x ≡ encode c sent)
+pub coding-exactly : (c : EncodeCall) (sent : List ℕ) → firstOf (encodeLentChecks c sent) ≡ Done → (x : EncodeResult) → IsCoding c sent x ↔ (x ≡ encode c sent)
 coding-exactly c sent passed x =
     let is = every-coding-means c sent passed in
     (λ h. same-result c sent passed x (encode c sent) h is, λ e. rw e is)

@@ -13,6 +13,7 @@ use lib.Seq.{getD-append-add}
 use Rattle.integers.specs.Integers.{maxℤ, minℤ, limited}
 use Rattle.lists.specs.laws.Listed.{listed-at}
 use Rattle.refusal.specs.declared.Reply.the-variants.{Done}
+use Rattle.refusal.specs.Refusals.{firstOf}
 use Rattle.trellis.specs.declared.End.{End}
 use Rattle.trellis.specs.declared.Outcome.the-variants.{Free}
 use Rattle.trellis.specs.Path.{Values, aprioriAt}
@@ -24,7 +25,7 @@ use Rattle.frame.specs.Frame.{Frame, sectionsOf, tailOf, flags, spread}
 use Rattle.decoder.specs.Decoder.{handOver, decided, channel1, channel2, Soft, pass, handOn, handBack, handedOn, iteration, priorAfter, lastPass, decodedPass}
 use Rattle.decoder.specs.laws.Decodable.{decodable}
 use Rattle.frame.specs.laws.Checked.{checked}
-use Rattle.decoder.specs.Decoder.{DecodeCall, DecodeLent, decodeChecked, decodeSettled, decode}
+use Rattle.decoder.specs.Decoder.{DecodeCall, DecodeLent, decodeLentChecks, decodeSettled, decode}
 use Rattle.demands.specs.Decoding.{Pass, marginAt, extrinsicAt, IsPass, patternAt, AreIterations, AreWritten, EitherEmpty, IsDecoding}
 use Rattle.demands.specs.laws.Outcomes.{outcome-means, margin-written, extrinsic-written}
 use Rattle.refusal.specs.laws.Kept.{after-done}
@@ -176,7 +177,7 @@ module _ (c : DecodeCall) (l : DecodeLent) where
       lists-written (c .frame) values w (c .iterations) (decode c l .lists) (unforced (c .frame) (c .frame .second) (λ e. h (inr e))) (after-done e _ _) (after-done e _ _) (after-done e _ _)
 
   -- whatever is lent: a call to which no number but 12 or 13 applies is a whole decoding
-  pub every-decoding-means : decodeChecked c l ≡ Done → IsDecoding c l (decode c l)
+  pub every-decoding-means : firstOf (decodeLentChecks c l) ≡ Done → IsDecoding c l (decode c l)
   every-decoding-means passed =
       let w = checked (c .frame) (decodable c l passed .framed) .permutes in
       let says = decode-says c l passed in

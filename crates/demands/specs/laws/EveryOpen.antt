@@ -17,7 +17,7 @@ use Rattle.demands.specs.laws.Always.{decodes-by-paths, codes-by-paths}
 
 pub open-always-decodes : (c : DecodeCall) (l : DecodeLent) → c .frame .first ≡ Open → c .frame .second ≡ Open → AlwaysDecodes c l
 open-always-decodes c l e1 e2 =
-    decodes-by-paths c l (λ passed. walked-open c e1 e2 (shaped-is _ (decodable c l passed .framed .shape) .some-state))
+    decodes-by-paths c l (λ passed. walked-open (c .frame) e1 e2 (shaped-is _ (decodable c l passed .framed .shape) .some-state))
 
 open-sends : (f : Frame) (message : List ℕ) → f .first ≡ Open → f .second ≡ Open → found (sentFor f message) ≡ true
 unfolding found sentFor codedPath bind

@@ -1,58 +1,89 @@
--- What a sheet is answered with, the proof: every sequence of bytes is answered with a refusal by 1, 6 or 8, or with a result of K lines.
+-- What a sheet is answered with, the proof: every sequence of bytes is answered as the statement says, and by nothing else.
 -- Assumes nothing.
-use mathlib.Core.Path.{_≡_, refl, subst, _∙_}
-use mathlib.Core.Logic.{_≢_, inl, inr}
-use mathlib.Core.Bool.{Bool, true, false}
-use mathlib.Core.List.{List, List·Memᴰ, List·Memᴰ·head, List·Memᴰ·tail}
-use Prim.Native.Nat.{ℕ, _<_}
+use mathlib.Core.Path.{_≡_, refl, sym, ap, subst, _∙_}
+use mathlib.Core.Logic.{_↔_, _≢_, inl, inr, ⊎-elim}
+use mathlib.Core.Bool.{Bool, true, false, not, false≢true}
+use mathlib.Core.List.{List, [], _∷_}
+use mathlib.Core.Option.{Option, none, some, Option·elim}
+use Prim.Native.Nat.{ℕ, suc, _+_}
 use native.Mathlib.Omega.{arith}
-use lib.IntN.{pos}
-use lib.ListN.{length, getD}
-use Rattle.lists.specs.Lists.{firstFailing}
+use lib.ListN.{length}
+use borrow.Author.Tests.{not-false}
+use Rattle.lists.specs.Lists.{firstFailing, found}
 use Rattle.lists.specs.laws.Listed.{listed-length}
 use Rattle.refusal.specs.declared.Refusal.{Refusal}
-use Rattle.refusal.specs.declared.Refusal.the-variants.{Value, Pattern}
+use Rattle.refusal.specs.declared.Refusal.the-variants.{Text, Value, Pattern}
 use Rattle.refusal.specs.declared.Reply.{Reply}
 use Rattle.refusal.specs.declared.Reply.the-variants.{Done, Refused}
-use Rattle.refusal.specs.Refusals.{told, check, _then_}
-use Rattle.refusal.specs.laws.Checks.{then-is-done}
+use Rattle.refusal.specs.Refusals.{told, check, _then_, firstOf}
+use Rattle.refusal.specs.laws.InTurn.{first-is-reply, done-exactly, both-done, Each, each-holds, each-done}
 use Rattle.trellis.specs.Limits.{channelFits}
-use Rattle.decoder.specs.Decoder.{DecodeLent, DecodeResult, decode}
-use Rattle.sheet.specs.Sheet.{messageBits, messageAt, valuesOf, rowValues, loudLine, valueReply, textReply, callOf, lentFor, refusalText, resultLine, resultText, answer}
-use Rattle.sheet.specs.laws.Decoding.{answer-refused, answer-done, printed-refused, printed-done}
+use Rattle.frame.specs.Interleaver.{permutes}
+use Rattle.decoder.specs.Decoder.{DecodeResult, decodeLentChecks, decodePathChecks, decodeChecks, decodeSettled, decode}
+use Rattle.sheet.specs.Sheet.{messageBits, messageAt, valuesOf, rowValues, loudLine, firstFault, faultLine, sizeFits, textChecks, sheetChecks, callOf, lentFor, refusalText, resultText, printed, answer}
 use Rattle.sheet.specs.laws.Loud.{loud-first, rows-count}
-use Rattle.sheet.specs.laws.Answers.{sheet-reply, text-number, result-long, result-bit, result-feeds}
-use Rattle.demands.specs.Answered.{sheetNumbers, IsLoudLine, IsRefusal, IsResult, IsAnswer}
-
-refusal-printed : (sheet : List ℕ) (r : Refusal) → List·Memᴰ (told r .number) sheetNumbers → (told r .number ≡ 6 → IsLoudLine sheet (told r .place)) →
-    (told r .number ≢ 1 → told r .number ≢ 6 → told r .place ≡ 0) → IsRefusal sheet (refusalText r)
-unfolding refusalText
-refusal-printed sheet r one-of loud lineless =
-    record { number = told r .number; line = told r .place; one-of = one-of; loud = loud; lineless = lineless; whole = refl }
-
-result-printed : (l : DecodeLent) → ((k : ℕ) → k < length (l .bits) → getD (l .bits) k 0 < 2) → IsResult (length (l .bits)) (resultText l)
-unfolding resultText resultLine
-result-printed l bits = record {
-  line = resultLine l;
-  is-line = λ k h. record {
-    bit = getD (l .bits) k 0;
-    margin = getD (l .margins) k (pos 0);
-    extrinsic = getD (l .extrinsics) k (pos 0);
-    is-bit = bits k h;
-    whole = refl;
-  };
-  whole = refl;
-  line-feeds = result-feeds l;
-}
+use Rattle.sheet.specs.laws.Answers.{sheet-reply, frame-reply, result-long, result-feeds}
+use Rattle.demands.specs.Answered.{sheetRules, IsFaultyLine, IsLoudLine, IsRefusal, IsResult, IsAnswer}
+use Rattle.demands.specs.laws.EveryDecoding.{every-decoding-means}
+use Rattle.demands.specs.laws.FaultyLines.{faulty-line}
+use Rattle.demands.specs.laws.Determined.{decoding-exactly}
 
 module _ (sheet : List ℕ) where
-  refused-text : (r : Refusal) → textReply sheet ≡ Refused r → IsAnswer sheet (answer sheet)
-  unfolding IsAnswer
-  refused-text r e =
-      let by-one = text-number sheet e in
-      inl
-      (subst (IsRefusal sheet) (answer-refused sheet r e)
-      (refusal-printed sheet r (List·Memᴰ·head by-one) (λ six. absurd (omega (arith, by-one))) (λ other loud. absurd (other by-one))))
+  abbrev frame-result : DecodeResult
+  frame-result = decode (callOf sheet) (lentFor sheet)
+
+  -- ---- the answer by the rules
+
+  reply-by-rules : firstOf (sheetChecks sheet) ≡ firstOf (sheetRules sheet)
+  unfolding sheetRules textChecks callOf
+  reply-by-rules = sheet-reply sheet
+
+  answer-by-rules : (r : Reply) → firstOf (sheetRules sheet) ≡ r → answer sheet ≡ printed r (frame-result .lists)
+  unfolding answer
+  answer-by-rules r e = ap (λ (x : Reply). printed x (frame-result .lists)) (reply-by-rules ∙ e)
+
+  answer-refused : (r : Refusal) → firstOf (sheetRules sheet) ≡ Refused r → answer sheet ≡ refusalText r
+  unfolding printed
+  answer-refused r e = answer-by-rules (Refused r) e
+
+  answer-decoded : firstOf (sheetRules sheet) ≡ Done → answer sheet ≡ resultText (frame-result .lists)
+  unfolding printed
+  answer-decoded e = answer-by-rules Done e
+
+  -- ---- decoded
+
+  module _ (unbroken : firstOf (sheetRules sheet) ≡ Done) where
+    frame-done : firstOf (decodeChecks (callOf sheet) (lentFor sheet)) ≡ Done
+    unfolding sheetRules textChecks callOf Each
+    frame-done =
+        let (sized, (faultless, (inside, (permuted, end)))) = each-holds (sheetRules sheet) unbroken in
+        frame-reply sheet (each-done (textChecks sheet) (sized, (faultless, tt))) ∙ each-done _ (inside, (permuted, tt))
+
+    frame-passes : firstOf (decodeLentChecks (callOf sheet) (lentFor sheet)) ≡ Done
+    unfolding decodeChecks
+    frame-passes = both-done (decodeLentChecks (callOf sheet) (lentFor sheet)) (decodePathChecks (callOf sheet .frame)) frame-done .0
+
+    frame-replied : frame-result .reply ≡ Done
+    unfolding decode decodeSettled
+    frame-replied = frame-done
+
+    -- a line for each message position
+    all-lines : length (frame-result .lists .bits) ≡ messageBits sheet
+    unfolding callOf
+    all-lines = result-long (callOf sheet) (lentFor sheet) frame-replied ∙ listed-length (λ k. messageAt sheet k .to) (messageBits sheet)
+
+    is-result : IsResult sheet (answer sheet)
+    unfolding resultText
+    is-result = record {
+      unbroken = done-exactly (sheetRules sheet) .0 unbroken;
+      result = frame-result;
+      decoding = every-decoding-means (callOf sheet) (lentFor sheet) frame-passes;
+      done = frame-replied;
+      whole = rw all-lines at (answer-decoded unbroken);
+      line-feeds = rw (answer-decoded unbroken) (result-feeds (frame-result .lists) ∙ ap (λ (k : ℕ). k + 1) all-lines);
+    }
+
+  -- ---- refused
 
   -- where a value is outside its limits
   loud-line : channelFits (valuesOf sheet) ≡ false → IsLoudLine sheet (loudLine sheet)
@@ -67,43 +98,60 @@ module _ (sheet : List ℕ) where
         inside-before = first .passed;
       }
 
-  module _ (fits : textReply sheet ≡ Done) where
-    abbrev result : DecodeResult
-    result = decode (callOf sheet) (lentFor sheet)
+  -- where a line is faulty
+  told-line : not (found (firstFault sheet)) ≡ false → IsFaultyLine sheet (faultLine sheet)
+  unfolding faultLine found Option·elim
+  told-line e = go (firstFault sheet) refl (not-false _ e)
+    where
+      go : (f : Option ℕ) → firstFault sheet ≡ f → found f ≡ true → IsFaultyLine sheet (Option·elim f 0 suc)
+      go none is h = absurd (false≢true h)
+      go (some i) is h = faulty-line sheet i is
 
-    abbrev reply : Reply
-    reply = valueReply sheet then result .reply
+  refused : (r : Refusal) → firstOf (sheetRules sheet) ≡ Refused r → ((line : ℕ) → r ≡ Text line → line ≢ 0 → IsFaultyLine sheet line) →
+      ((line : ℕ) → r ≡ Value line → IsLoudLine sheet line) → IsAnswer sheet (answer sheet)
+  unfolding IsAnswer refusalText
+  refused r e faulty loud =
+      inl (record { refusal = r; first = first-is-reply (sheetRules sheet) .refused r .0 e; faulty = faulty; loud = loud; whole = answer-refused r e })
 
-    refused-frame : (r : Refusal) → List·Memᴰ (told r .number) sheetNumbers → (told r .number ≡ 6 → IsLoudLine sheet (told r .place)) →
-        (told r .number ≢ 6 → told r .place ≡ 0) → reply ≡ Refused r → IsAnswer sheet (answer sheet)
-    unfolding IsAnswer
-    refused-frame r one-of loud lineless e =
-        inl
-        (subst (IsRefusal sheet) (printed-refused (valueReply sheet) result e ∙ answer-done sheet fits)
-        (refusal-printed sheet r one-of loud (λ text other. lineless other)))
+  -- ---- by the rules
 
-    decoded : reply ≡ Done → IsAnswer sheet (answer sheet)
-    unfolding IsAnswer callOf
-    decoded e =
-        let done = then-is-done (valueReply sheet) (result .reply) .0 e .1 in
-        let long = result-long (callOf sheet) (lentFor sheet) done in
-        let written = result-printed (result .lists) (λ k h. result-bit (callOf sheet) (lentFor sheet) done k (omega arith)) in
-        let size = long ∙ listed-length (λ k. messageAt sheet k .to) (messageBits sheet) in
-        inr (subst (λ (k : ℕ). IsResult k (answer sheet)) size (subst (IsResult _) (printed-done (valueReply sheet) result e ∙ answer-done sheet fits) written))
+  told-apart : {r s : Refusal} → told r .number ≢ told s .number → r ≡ s → ⊥
+  told-apart h e = h (ap (λ (x : Refusal). told x .number) e)
 
-    -- by the tests of the values and of the pattern
-    tested : (v p : Bool) → channelFits (valuesOf sheet) ≡ v → reply ≡ (check v (Value (loudLine sheet)) then check p Pattern) → IsAnswer sheet (answer sheet)
-    unfolding check _then_ told
-    tested false p outside e =
-        refused-frame (Value _) (List·Memᴰ·tail (List·Memᴰ·head refl)) (λ six. loud-line outside) (λ other. absurd (other refl)) e
-    tested true false inside e =
-        refused-frame Pattern (List·Memᴰ·tail (List·Memᴰ·tail (List·Memᴰ·head refl))) (λ six. absurd (omega arith)) (λ other. refl) e
-    tested true true inside e = decoded e
+  tested : (a b c d : Bool) → sizeFits sheet ≡ a → not (found (firstFault sheet)) ≡ b → channelFits (valuesOf sheet) ≡ c →
+      permutes (messageBits sheet) (callOf sheet .frame .pattern) ≡ d → IsAnswer sheet (answer sheet)
+  unfolding sheetRules firstOf check _then_ told
+  tested false b c d ea eb ec ed =
+      refused (Text 0) (rw ea refl) (λ line is some. absurd (some (sym (ap (λ (x : Refusal). told x .place) is))))
+      (λ line is. absurd (told-apart (λ n. omega arith) is))
+  tested true false c d ea eb ec ed =
+      refused (Text (faultLine sheet)) (rw (ea, eb) refl)
+      (λ line is some. subst (IsFaultyLine sheet) (ap (λ (x : Refusal). told x .place) is) (told-line eb))
+      (λ line is. absurd (told-apart (λ n. omega arith) is))
+  tested true true false d ea eb ec ed =
+      refused (Value (loudLine sheet)) (rw (ea, eb, ec) refl) (λ line is some. absurd (told-apart (λ n. omega arith) is))
+      (λ line is. subst (IsLoudLine sheet) (ap (λ (x : Refusal). told x .place) is) (loud-line ec))
+  tested true true true false ea eb ec ed =
+      refused Pattern (rw (ea, eb, ec, ed) refl) (λ line is some. absurd (told-apart (λ n. omega arith) is)) (λ line is. absurd (told-apart (λ n. omega arith) is))
+  tested true true true true ea eb ec ed = unfold IsAnswer in inr (is-result (rw (ea, eb, ec, ed) refl))
 
 -- every sequence of bytes is a sheet
 pub every-sheet-is-answered : (sheet : List ℕ) → IsAnswer sheet (answer sheet)
-every-sheet-is-answered sheet = go (textReply sheet) refl
+every-sheet-is-answered sheet = tested sheet _ _ _ _ refl refl refl refl
+
+-- ---- and by nothing else
+
+same-text : (sheet text : List ℕ) → IsResult sheet text → text ≡ answer sheet
+unfolding resultText
+same-text sheet text h =
+    let e = done-exactly (sheetRules sheet) .1 (h .unbroken) in
+    let same = decoding-exactly (callOf sheet) (lentFor sheet) (frame-passes sheet e) (h .result) .0 (h .decoding) in
+    rw (← all-lines sheet e, same) at (h .whole) ∙ sym (answer-decoded sheet e)
+
+-- the answer is the only text that the statement allows
+pub answer-exactly : (sheet text : List ℕ) → IsAnswer sheet text ↔ (text ≡ answer sheet)
+answer-exactly sheet text = (only, λ e. rw e (every-sheet-is-answered sheet))
   where
-    go : (r : Reply) → textReply sheet ≡ r → IsAnswer sheet (answer sheet)
-    go Done e = unfold valueReply in tested sheet e _ _ refl (sheet-reply sheet e)
-    go (Refused r) e = refused-text sheet r e
+    only : IsAnswer sheet text → text ≡ answer sheet
+    only = unfold IsAnswer refusalText in
+        ⊎-elim (λ h. h .whole ∙ sym (answer-refused sheet (h .refusal) (first-is-reply (sheetRules sheet) .refused (h .refusal) .1 (h .first)))) (same-text sheet text)

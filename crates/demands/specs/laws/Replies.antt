@@ -14,13 +14,14 @@ use Rattle.lists.specs.laws.Tests.{or-cases}
 use Rattle.refusal.specs.declared.Refusal.the-variants.{NoPath, ForcedPosition}
 use Rattle.refusal.specs.declared.Reply.{Reply}
 use Rattle.refusal.specs.declared.Reply.the-variants.{Done, Refused}
-use Rattle.refusal.specs.Refusals.{check, _then_}
-use Rattle.refusal.specs.laws.Checks.{refused-is-not-done, done-then}
+use Rattle.refusal.specs.Refusals.{check, _then_, firstOf}
+use Rattle.refusal.specs.laws.Checks.{refused-is-not-done}
+use Rattle.refusal.specs.laws.InTurn.{first-passes}
 use Rattle.trellis.specs.declared.End.{End}
 use Rattle.trellis.specs.Path.{class}
 use Rattle.trellis.specs.Outcome.{pathless, forced}
 use Rattle.frame.specs.Frame.{Frame, sectionsOf, tail1, tail2, sections1, sections2}
-use Rattle.decoder.specs.Decoder.{DecodeCall, DecodeLent, decodeChecked, decodeWalked, decodeReply, decodeSettled, decode}
+use Rattle.decoder.specs.Decoder.{DecodeCall, DecodeLent, decodeLentChecks, bothWalked, bothFree, decodePathChecks, decodeChecks, decodeSettled, decode}
 use Rattle.decoder.specs.laws.Settled.{walked-clears}
 use Rattle.refusal.specs.laws.Kept.{after-refusal}
 use Rattle.demands.specs.laws.Told.{Tells, path-told, class-empty}
@@ -101,7 +102,7 @@ pub record Says (r : Reply) (P Q : Type 0) : Type 0 where
 neither-refusal : Refused NoPath ≡ Refused ForcedPosition → ⊥
 neither-refusal e = let z : _≡_ {A = ℕ} 0 1 = cc in omega arith
 
-reply-says : {P Q : Type 0} (b d : Bool) → Tells b P → Tells d Q → Says (check b NoPath then check (not d) ForcedPosition) P Q
+reply-says : {P Q : Type 0} (b d : Bool) → Tells b P → Tells d Q → Says (check b NoPath then check (not d) ForcedPosition then Done) P Q
 unfolding check _then_
 reply-says false d t u =
     let none = t .no refl in
@@ -136,19 +137,19 @@ ways true false t u = inr (inr (t .yes refl, u .no refl))
 pub frame-ways : (f : Frame) → (BothPaths f → ⊥) ⊎ ((BothPaths f × EitherEmpty f) ⊎ (BothPaths f × (EitherEmpty f → ⊥)))
 frame-ways f = ways _ _ (paths-told f) (empty-told f)
 
-module _ (c : DecodeCall) (l : DecodeLent) (passed : decodeChecked c l ≡ Done) where
-  reply-is : decode c l .reply ≡ decodeWalked c
-  unfolding decode decodeSettled decodeReply
-  reply-is = done-then {y = decodeWalked c} passed
+module _ (c : DecodeCall) (l : DecodeLent) (passed : firstOf (decodeLentChecks c l) ≡ Done) where
+  reply-is : decode c l .reply ≡ firstOf (decodePathChecks (c .frame))
+  unfolding decode decodeSettled decodeChecks
+  reply-is = first-passes (decodeLentChecks c l) (decodePathChecks (c .frame)) passed
 
   pub decode-says : Says (decode c l .reply) (BothPaths (c .frame)) (EitherEmpty (c .frame))
-  unfolding decodeWalked
+  unfolding decodePathChecks firstOf bothWalked bothFree
   decode-says = rw reply-is (reply-says _ _ (paths-told (c .frame)) (empty-told (c .frame)))
 
   -- 12 and 13 clear the working list, as success does
   pub decode-clears : decode c l .lists .work ≡ replicate (length (l .work)) (pos 0)
-  unfolding decode decodeSettled decodeReply
-  decode-clears = rw (done-then {y = decodeWalked c} passed) (walked-clears c (l .work))
+  unfolding decode decodeSettled decodeChecks
+  decode-clears = rw (first-passes (decodeLentChecks c l) (decodePathChecks (c .frame)) passed) (walked-clears (c .frame) (l .work))
 
 -- any refusal keeps the result lists
 pub decode-keeps : (c : DecodeCall) (l : DecodeLent) → (decode c l .reply ≡ Done → ⊥) → AreKept l (decode c l .lists)

@@ -8,6 +8,7 @@ use mathlib.Core.Option.{Option, none, some, Option·map, bind}
 use Prim.Native.Nat.{ℕ, _<_}
 use Rattle.lists.specs.Lists.{found}
 use Rattle.refusal.specs.declared.Reply.the-variants.{Done}
+use Rattle.refusal.specs.Refusals.{firstOf}
 use Rattle.trellis.specs.declared.End.the-variants.{Zero}
 use Rattle.trellis.specs.Table.{Table, shaped, branched}
 use Rattle.trellis.specs.Path.{TrellisPath, finish}
@@ -16,7 +17,7 @@ use Rattle.trellis.specs.laws.Branches.{shaped-is, next-below}
 use Rattle.trellis.specs.laws.Returning.{LeadsBack, ends-in-state}
 use Rattle.frame.specs.Interleaver.{interleave}
 use Rattle.frame.specs.laws.Checked.{checked}
-use Rattle.coder.specs.Coder.{tailFrom, codedPath, sentFor, EncodeCall, encodeChecked}
+use Rattle.coder.specs.Coder.{tailFrom, codedPath, sentFor, EncodeCall, encodeLentChecks}
 use Rattle.coder.specs.laws.Bits.{bits-tested, bits-interleaved}
 use Rattle.coder.specs.laws.Encoded.{codable}
 use Rattle.coder.specs.laws.TailPaths.{no-tail}
@@ -38,7 +39,7 @@ module _ (t : Table) (n : ℕ) (shape : shaped t ≡ true) (branches : branched 
 
   module _ (c : DecodeCall) (l : DecodeLent) (is : IsTailed t n (c .frame)) where
     pub always-decodes : AlwaysDecodes c l
-    always-decodes = decodes-by-paths c l (λ passed. walked-back c (is .first) (is .second) (rw (is .table, is .tail) back))
+    always-decodes = decodes-by-paths c l (λ passed. walked-back (c .frame) (is .first) (is .second) (rw (is .table, is .tail) back))
 
   -- ---- the coder
 
@@ -60,7 +61,7 @@ module _ (t : Table) (n : ℕ) (shape : shaped t ≡ true) (branches : branched 
 
   module _ (c : EncodeCall) (sent : List ℕ) (is : IsTailed t n (c .frame)) where
     -- both coders have one
-    both-tailed : encodeChecked c sent ≡ Done → found (sentFor (c .frame) (c .message)) ≡ true
+    both-tailed : firstOf (encodeLentChecks c sent) ≡ Done → found (sentFor (c .frame) (c .message)) ≡ true
     unfolding sentFor bind
     both-tailed passed =
         let f = c .frame in

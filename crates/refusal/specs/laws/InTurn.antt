@@ -10,10 +10,10 @@ use Rattle.lists.specs.laws.Tests.{and-both, and-true}
 use Rattle.refusal.specs.declared.Refusal.{Refusal}
 use Rattle.refusal.specs.declared.Reply.{Reply}
 use Rattle.refusal.specs.declared.Reply.the-variants.{Done, Refused}
-use Rattle.refusal.specs.Refusals.{Check, _unless_, check, _then_, firstOf}
+use Rattle.refusal.specs.Refusals.{told, Check, _unless_, check, _then_, firstOf}
 use Rattle.refusal.specs.Replied.{allHold, IsFirstToFail, IsReply}
-use Rattle.refusal.specs.laws.Checks.{refused-is-not-done, check-is-done, then-is-done, done-then, refused-then, then-assoc, done-after}
-use Rattle.refusal.specs.laws.Kept.{Gives, gives-done, gives-check, gives-then}
+use Rattle.refusal.specs.laws.Checks.{refused-is-not-done, check-is-done, then-is-done, done-then, refused-then, then-assoc, done-after, fails-first}
+use Rattle.refusal.specs.laws.Kept.{Gives, gives-done, gives-check, gives-then, gives-refusal, other, other-is-not}
 
 -- ---- one list after another
 
@@ -30,6 +30,20 @@ module _ (xs ys : List Check) where
 
   pub first-refuses : {r : Refusal} → firstOf xs ≡ Refused r → firstOf (xs ++ ys) ≡ Refused r
   first-refuses e = first-of-both xs ys ∙ refused-then (firstOf ys) e
+
+  -- where the rest is done, those before decide
+  pub rest-done : firstOf ys ≡ Done → firstOf (xs ++ ys) ≡ firstOf xs
+  rest-done e = first-of-both xs ys ∙ sym (done-after (firstOf xs) e)
+
+  -- both are done where the whole is
+  pub both-done : firstOf (xs ++ ys) ≡ Done → (firstOf xs ≡ Done) × (firstOf ys ≡ Done)
+  both-done e = then-is-done (firstOf xs) (firstOf ys) .0 (sym (first-of-both xs ys) ∙ e)
+
+-- a check that holds decides nothing
+pub held-out : (xs : List Check) (c : Check) (ys : List Check) → c .holds ≡ true → firstOf (xs ++ (c ∷ ys)) ≡ firstOf (xs ++ ys)
+unfolding firstOf
+held-out [] c ys e = done-then (check-is-done (c .holds) (c .refusal) .1 e)
+held-out (x ∷ xs) c ys e = ap (λ (r : Reply). check (x .holds) (x .refusal) then r) (held-out xs c ys e)
 
 -- checks one after the other, the last of them d, as code makes them
 unfoldable pub chained : List Check → Check → Reply
@@ -80,17 +94,17 @@ done-exactly cs = (λ e. each-is-all cs (each-holds cs e), λ e. each-done cs (a
 
 -- ---- the first that fails
 
+same-refusal : {r s : Refusal} → Refused s ≡ Refused r → s ≡ r
+same-refusal e = cc
+
 first-refused : (cs : List Check) (r : Refusal) → firstOf cs ≡ Refused r → IsFirstToFail cs r
 unfolding firstOf check _then_ every
 first-refused [] r e = absurd (refused-is-not-done (sym e))
 first-refused (c ∷ cs) r e = go (c .holds) refl e (first-refused cs r)
   where
-    same : {s : Refusal} → Refused s ≡ Refused r → s ≡ r
-    same e = cc
-
     go : (b : Bool) → c .holds ≡ b → (check b (c .refusal) then firstOf cs) ≡ Refused r → (firstOf cs ≡ Refused r → IsFirstToFail cs r) →
         IsFirstToFail (c ∷ cs) r
-    go false h e later = record { before = []; after = cs; in-turn = ap₂ (λ (s : Refusal) (b : Bool). s unless b ∷ cs) (same e) h; hold-before = refl }
+    go false h e later = record { before = []; after = cs; in-turn = ap₂ (λ (s : Refusal) (b : Bool). s unless b ∷ cs) (same-refusal e) h; hold-before = refl }
     go true h e later =
         let rest = later e in
         record {
@@ -123,3 +137,31 @@ pub first-gives : (f : Refusal → Bool) (cs : List Check) → every (λ c. f (c
 unfolding firstOf every
 first-gives f [] e = gives-done
 first-gives f (c ∷ cs) e = let (here, rest) = and-both _ _ e in gives-then (gives-check (c .holds) (c .refusal) here) (first-gives f cs rest)
+
+-- a number that no other check has is told exactly where all before its check hold and that one fails
+module _ (xs : List Check) (c : Check) (ys : List Check) (r : Refusal) where
+  abbrev others : Refusal → Bool
+  others = other (told r .number)
+
+  module _ (only-before : every (λ d. others (d .refusal)) xs ≡ true) (only-after : every (λ d. others (d .refusal)) ys ≡ true) where
+    told-there : firstOf (xs ++ (c ∷ ys)) ≡ Refused r → (firstOf xs ≡ Done) × ((c .holds ≡ false) × (c .refusal ≡ r))
+    told-there e = before (firstOf xs) refl (sym (first-of-both xs (c ∷ ys)) ∙ e)
+      where
+        never : {x : Reply} → Gives others x → x ≡ Refused r → ⊥
+        never {x} g is = other-is-not r (gives-refusal {f = others} {r = r} (rw is at g))
+
+        here : (b : Bool) → c .holds ≡ b → (check b (c .refusal) then firstOf ys) ≡ Refused r → (c .holds ≡ false) × (c .refusal ≡ r)
+        here true h e = unfold check _then_ in absurd (never (first-gives others ys only-after) e)
+        here false h e = unfold check _then_ in (h, same-refusal e)
+
+        before : (x : Reply) → firstOf xs ≡ x → (x then firstOf (c ∷ ys)) ≡ Refused r → (firstOf xs ≡ Done) × ((c .holds ≡ false) × (c .refusal ≡ r))
+        before Done h e = unfold _then_ firstOf in (h, here (c .holds) refl e)
+        before (Refused s) h e = unfold _then_ in absurd (never (rw h at (first-gives others xs only-before)) e)
+
+    pub told-exactly : (firstOf (xs ++ (c ∷ ys)) ≡ Refused r) ↔ ((allHold xs ≡ true) × ((c .holds ≡ false) × (c .refusal ≡ r)))
+    told-exactly = (
+      λ e. let (x, at) = told-there e in (done-exactly xs .0 x, at),
+      λ h.
+          first-passes xs (c ∷ ys) (done-exactly xs .1 (h .0))
+          ∙ unfold firstOf in sym (fails-first (firstOf ys) (h .1 .0)) ∙ ap Refused (h .1 .1),
+    )

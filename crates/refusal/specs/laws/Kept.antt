@@ -50,6 +50,10 @@ module _ {f : Refusal → Bool} where
 unfoldable pub other : ℕ → Refusal → Bool
 other n r = not (eqb (told r .number) n)
 
+pub other-is-not : (r : Refusal) → other (told r .number) r ≡ true → ⊥
+unfolding other
+other-is-not r e = eqb-false (told r .number) (told r .number) (not-true (eqb (told r .number) (told r .number)) e) refl
+
 pub never-told : (n : ℕ) {x : Reply} → n ≢ 0 → Gives (other n) x → numberOf x ≢ n
 unfolding passing other numberOf
 never-told n {x} some e = go x e

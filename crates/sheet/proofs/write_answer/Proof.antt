@@ -3,15 +3,15 @@
 use mathlib.Core.Path.{_≡_, sym, _∙_}
 use native.Mathlib.Omega.{arith}
 use borrow.Author.Needs.{needs}
-use Rattle.refusal.specs.Refusals.{told, placeOf}
+use Rattle.refusal.specs.Refusals.{told, placeOf, firstOf}
 use Rattle.refusal.specs.declared.Reply.the-variants.{Done}
-use Rattle.sheet.specs.Sheet.{textReply}
+use Rattle.sheet.specs.Sheet.{textChecks}
 use Rattle.sheet.specs.laws.Fitting.{Fitting, fitting}
 use Rattle.sheet.specs.laws.Decoding.{answer-refused}
 use Rattle.sheet.proofs.write_answer.Statement.{statement}
 use Rattle.sheet.proofs.write_answer.Tie as tie
 
-is-done : (c : tie.After-enum-told) → textReply (c .before .before .before .before .before .args .sheet .now) ≡ Done
+is-done : (c : tie.After-enum-told) → firstOf (textChecks (c .before .before .before .before .before .args .sheet .now)) ≡ Done
 is-done c = sym (c .before .before .text-reply .ensures .0) ∙ c .enum-told .given .1
 
 fits : (c : tie.After-enum-told) → Fitting (c .before .before .before .before .before .args .sheet .now)

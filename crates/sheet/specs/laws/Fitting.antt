@@ -1,7 +1,7 @@
 -- The text's faults: the reply by its tests one after the other, the first fault line by line, and what a sheet whose text fits is.
 -- Assumes nothing.
 use mathlib.Core.Path.{_≡_, refl, sym, ap, _∙_}
-use mathlib.Core.Bool.{Bool, true, false, cond, _&&_}
+use mathlib.Core.Bool.{Bool, true, false, cond, not, _&&_, false≢true}
 use mathlib.Core.List.{List, []}
 use mathlib.Core.Option.{Option, none, some, Option·elim, orElse}
 use Prim.Native.Nat.{ℕ, suc, _+_, _-_, _≤_, _<_}
@@ -12,14 +12,16 @@ use lib.Dec.{leb}
 use lib.ListN.{length, getD, take, drop, drop-of-length-le}
 use lib.Seq.{drop-cons}
 use borrow.Author.Tests.{le-leb, lt-leb, leb-true}
-use Rattle.lists.specs.Lists.{isEmpty}
+use Rattle.lists.specs.Lists.{isEmpty, found}
 use Rattle.lists.specs.laws.Tests.{and-both}
 use Rattle.text.specs.Text.{cut}
 use Rattle.refusal.specs.declared.Refusal.the-variants.{Text}
 use Rattle.refusal.specs.declared.Reply.{Reply}
 use Rattle.refusal.specs.declared.Reply.the-variants.{Done, Refused}
-use Rattle.refusal.specs.laws.Checks.{refused-is-not-done, first-passed, fails-first, passes-first}
-use Rattle.sheet.specs.Sheet.{linesOf, lastPiece, rowCount, messageBits, lineFits, faultFrom, firstFault, textReply}
+use Rattle.refusal.specs.Refusals.{check, _then_, firstOf}
+use Rattle.refusal.specs.laws.Checks.{fails-first, passes-first}
+use Rattle.refusal.specs.laws.InTurn.{Each, each-holds}
+use Rattle.sheet.specs.Sheet.{linesOf, lastPiece, rowCount, messageBits, lineFits, faultFrom, firstFault, faultLine, sizeFits, textChecks}
 use Rattle.sheet.specs.laws.Pieces.{Counted, Begins, ends-before, piece-is, front-length, front-at}
 
 -- ---- the sheet by its pieces
@@ -72,6 +74,12 @@ line-is {sheet} {i} b ends h =
 
 -- ---- the reply, test by test
 
+-- the first fault, told
+fault-told : (f : Option ℕ) → Option·elim f Done (λ i. Refused (Text (suc i))) ≡ (check (not (found f)) (Text (Option·elim f 0 suc)) then Done)
+unfolding Option·elim found check _then_
+fault-told none = refl
+fault-told (some i) = refl
+
 small : (a b c : Bool) → a ≡ true → b ≡ true → c ≡ true → (a && b && c) ≡ true
 small a b c e f g = rw (e, f, g) refl
 
@@ -79,23 +87,23 @@ module _ (sheet : List ℕ) where
   abbrev rows : ℕ
   rows = rowCount sheet
 
-  pub too-long : 16384 < length sheet → Refused (Text 0) ≡ textReply sheet
-  unfolding textReply
+  pub too-long : 16384 < length sheet → Refused (Text 0) ≡ firstOf (textChecks sheet)
+  unfolding textChecks firstOf sizeFits
   too-long h = fails-first _ (go (leb 3 rows) (leb rows 514))
     where
       go : (b c : Bool) → (leb (length sheet) 16384 && b && c) ≡ false
       go b c = rw (lt-leb (length sheet) 16384 h) refl
 
-  pub too-few : rows < 3 → Refused (Text 0) ≡ textReply sheet
-  unfolding textReply
+  pub too-few : rows < 3 → Refused (Text 0) ≡ firstOf (textChecks sheet)
+  unfolding textChecks firstOf sizeFits
   too-few h = fails-first _ (go (leb (length sheet) 16384) (leb rows 514))
     where
       go : (a c : Bool) → (a && leb 3 rows && c) ≡ false
       go true c = rw (lt-leb 3 rows h) refl
       go false c = refl
 
-  pub too-many : 514 < rows → Refused (Text 0) ≡ textReply sheet
-  unfolding textReply
+  pub too-many : 514 < rows → Refused (Text 0) ≡ firstOf (textChecks sheet)
+  unfolding textChecks firstOf sizeFits
   too-many h = fails-first _ (go (leb (length sheet) 16384) (leb 3 rows))
     where
       go : (a b : Bool) → (a && b && leb rows 514) ≡ false
@@ -107,20 +115,20 @@ module _ (sheet : List ℕ) where
     sized : (leb (length sheet) 16384 && leb 3 rows && leb rows 514) ≡ true
     sized = small _ _ _ (le-leb (length sheet) 16384 short) (le-leb 3 rows least) (le-leb rows 514 most)
 
-    pub text-by : {x : Reply} → x ≡ Option·elim (firstFault sheet) Done (λ i. Refused (Text (suc i))) → x ≡ textReply sheet
-    unfolding textReply
-    text-by e = passes-first (Text 0) sized e
+    pub text-by : {x : Reply} → x ≡ Option·elim (firstFault sheet) Done (λ i. Refused (Text (suc i))) → x ≡ firstOf (textChecks sheet)
+    unfolding textChecks firstOf sizeFits faultLine
+    text-by e = passes-first (Text 0) sized (e ∙ fault-told (firstFault sheet))
 
-    pub text-fault : {i : ℕ} → faultFrom (messageBits sheet) 0 (linesOf sheet) ≡ some i → Refused (Text (i + 1)) ≡ textReply sheet
+    pub text-fault : {i : ℕ} → faultFrom (messageBits sheet) 0 (linesOf sheet) ≡ some i → Refused (Text (i + 1)) ≡ firstOf (textChecks sheet)
     unfolding firstFault orElse Option·elim
     text-fault {i} e = text-by (rw (e, add-one i) refl)
 
     pub text-open : faultFrom (messageBits sheet) 0 (linesOf sheet) ≡ none → isEmpty (lastPiece sheet) ≡ false →
-        Refused (Text (length (linesOf sheet) + 1)) ≡ textReply sheet
+        Refused (Text (length (linesOf sheet) + 1)) ≡ firstOf (textChecks sheet)
     unfolding firstFault orElse Option·elim
     text-open e f = text-by (rw (e, f, add-one (length (linesOf sheet))) refl)
 
-    pub text-done : faultFrom (messageBits sheet) 0 (linesOf sheet) ≡ none → isEmpty (lastPiece sheet) ≡ true → Done ≡ textReply sheet
+    pub text-done : faultFrom (messageBits sheet) 0 (linesOf sheet) ≡ none → isEmpty (lastPiece sheet) ≡ true → Done ≡ firstOf (textChecks sheet)
     unfolding firstFault orElse Option·elim
     text-done e f = text-by (rw (e, f) refl)
 
@@ -132,18 +140,17 @@ pub record Fitting (sheet : List ℕ) : Type 0 where
   pub lines-long : length (linesOf sheet) ≡ messageBits sheet + 3
   pub cut-long : length (cut 10 sheet) ≡ messageBits sheet + 4
 
-no-fault : (f : Option ℕ) (e : Bool) (n : ℕ) → Option·elim (orElse f (cond e none (some n))) Done (λ i. Refused (Text (suc i))) ≡ Done → e ≡ true
-unfolding Option·elim orElse
+no-fault : (f : Option ℕ) (e : Bool) (n : ℕ) → not (found (orElse f (cond e none (some n)))) ≡ true → e ≡ true
+unfolding found orElse
 no-fault none true n h = refl
-no-fault none false n h = absurd (refused-is-not-done h)
-no-fault (some i) true n h = refl
-no-fault (some i) false n h = absurd (refused-is-not-done h)
+no-fault none false n h = absurd (false≢true h)
+no-fault (some i) e n h = absurd (false≢true h)
 
-pub fitting : (sheet : List ℕ) → textReply sheet ≡ Done → Fitting sheet
-unfolding textReply firstFault rowCount messageBits
+pub fitting : (sheet : List ℕ) → firstOf (textChecks sheet) ≡ Done → Fitting sheet
+unfolding textChecks Each sizeFits firstFault rowCount messageBits
 fitting sheet e =
-    let (sizes, rest) = first-passed _ (Text 0) _ e in
-    let whole = no-fault (faultFrom (messageBits sheet) 0 (linesOf sheet)) (isEmpty (lastPiece sheet)) _ rest in
+    let (sizes, (faultless, end)) = each-holds (textChecks sheet) e in
+    let whole = no-fault (faultFrom (messageBits sheet) 0 (linesOf sheet)) (isEmpty (lastPiece sheet)) _ faultless in
     let (lower, most) = and-both (leb (length sheet) 16384 && leb 3 (rowCount sheet)) (leb (rowCount sheet) 514) sizes in
     let (short, least) = and-both (leb (length sheet) 16384) (leb 3 (rowCount sheet)) lower in
     let rows : rowCount sheet ≡ length (linesOf sheet) + 0 - 1 = rw whole refl in

@@ -21,7 +21,7 @@ use Rattle.refusal.specs.declared.Reply.the-variants.{Done, Refused}
 use Rattle.refusal.specs.Refusals.{check}
 use Rattle.refusal.specs.laws.Checks.{check-is-done, fails}
 use Rattle.trellis.specs.Limits.{channelFits}
-use Rattle.sheet.specs.Sheet.{messageBits, tailAt, messageValues, tailValues, valuesOf, rowValues, loudLine, valueReply}
+use Rattle.sheet.specs.Sheet.{messageBits, tailAt, messageValues, tailValues, valuesOf, rowValues, loudLine}
 
 -- ---- rows by the places of their values
 
@@ -150,8 +150,8 @@ module _ (sheet : List ℕ) where
   unfolding rowsIn rowValues
   rows-are = ap₂ _++_ (listed-ext _ _ k message-is) (listed-ext _ _ 2 tail-is)
 
-  pub loud-is : loudIn k (valuesOf sheet) ≡ valueReply sheet
-  unfolding loudIn valueReply loudLine
+  pub loud-is : loudIn k (valuesOf sheet) ≡ check (channelFits (valuesOf sheet)) (Value (loudLine sheet))
+  unfolding loudIn loudLine
   loud-is = ap (λ (rows : List (List ℤ)). check (channelFits (valuesOf sheet)) (Value (firstFailing channelFits rows + 2))) rows-are
 
   -- ---- where a value is outside its limits, a row has one
