@@ -36,7 +36,8 @@ extern "C" {
 
 /*
  * The number that a call returns; turbo_sheet returns a length instead. Of the numbers that apply, the first in the order 2, 15, 3, 4, 5, 6, 16,
- * 7, .. 14 is returned, which is the order below; each call tests only what it is lent.
+ * 7, .. 14 is returned, which is the order below; each call tests only what it is lent. The numbers that each call
+ * returns are told with it, in its order. They, and what a refusal leaves, are proved: EveryCallFromC in crates/demands/specs/CalledFromC.antt.
  *
  * TURBO_VALUE and TURBO_APRIORI say which value: `index` is that of the first one out of range in its list, counted from 0.
  *

@@ -1,7 +1,7 @@
 -- Demand 1 for callers in C, the statement: the same, with the reply told as a number, an end given as one, and the house table's two lists.
 -- Assumes nothing.
 use mathlib.Core.Path.{_≡_}
-use mathlib.Core.Bool.{Bool, true, false}
+use mathlib.Core.Bool.{true, false}
 use mathlib.Core.List.{List, [], _∷_}
 use Prim.Native.Nat.{ℕ}
 use lib.IntN.{ℤ}

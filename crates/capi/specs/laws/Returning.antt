@@ -6,7 +6,7 @@ use Prim.Native.Nat.{ℕ}
 use lib.ListN.{length}
 use borrow.Author.Tests.{eq-eqb, ne-eqb}
 use Rattle.refusal.specs.Refusals.{told, numberOf, check, _then_, firstOf, after}
-use Rattle.capi.specs.Returned.{Returned, returned, indexed, writtenChecks, written}
+use Rattle.capi.specs.Returned.{returned, indexed, writtenChecks, written}
 
 pub same-number : {A : Type 0} {n m : ℕ} {lists : A} → n ≡ m → returned n lists ≡ returned m lists
 same-number {A} {n} {m} {lists} e = ap (λ (k : ℕ). returned k lists) e

@@ -9,7 +9,7 @@ use lib.ListN.{length, replicate}
 use borrow.Author.Tests.{ne-eqb}
 use Rattle.refusal.specs.declared.Reply.{Reply}
 use Rattle.refusal.specs.declared.Reply.the-variants.{Done, Refused}
-use Rattle.refusal.specs.Refusals.{told, numberOf, Check, firstOf, after, cleared}
+use Rattle.refusal.specs.Refusals.{told, numberOf, Check, firstOf, cleared}
 use Rattle.refusal.specs.laws.Checks.{refused-is-not-done}
 use Rattle.refusal.specs.laws.InTurn.{first-is-reply}
 use Rattle.refusal.specs.laws.Kept.{after-refusal}

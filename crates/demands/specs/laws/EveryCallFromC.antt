@@ -1,13 +1,12 @@
 -- Demand 1 for callers in C, the proof: a number that stands for no end is refused before all else, and otherwise the number returned is that of the call.
 -- Assumes nothing.
-use mathlib.Core.Path.{_≡_, refl, ap, _∙_}
+use mathlib.Core.Path.{_≡_, refl, ap}
 use mathlib.Core.Logic.{⊎-elim}
 use mathlib.Core.Bool.{Bool, true, false}
 use mathlib.Core.List.{List, [], _∷_}
 use Prim.Native.Nat.{ℕ}
 use native.Mathlib.Omega.{arith}
 use lib.IntN.{ℤ}
-use lib.ListN.{length}
 use Rattle.refusal.specs.declared.Refusal.the-variants.{Shape}
 use Rattle.refusal.specs.declared.Reply.{Reply}
 use Rattle.refusal.specs.declared.Reply.the-variants.{Refused}
@@ -23,7 +22,7 @@ use Rattle.decoder.specs.Decoder.{DecodeCall, DecodeLent, decodeChecks, decode}
 use Rattle.capi.specs.declared.ends.Ending.{Ending}
 use Rattle.capi.specs.declared.ends.Ending.the-variants.{Known, Unknown}
 use Rattle.capi.specs.Returned.{returned, indexed, endOf, forEnding, loneReturned, encodeReturned, decodeReturned, writtenChecks, written}
-use Rattle.demands.specs.Called.{loneNumbers, coderNumbers, decoderNumbers, numbersOf, IsCall, loneLists, frameLists, EveryCall}
+use Rattle.demands.specs.Called.{loneNumbers, coderNumbers, decoderNumbers, numbersOf, IsCall, loneLists, frameLists}
 use Rattle.demands.specs.CalledFromC.{IsReturned, IsIndexed, EveryCallFromC}
 use Rattle.demands.specs.laws.EveryCall.{lone-numbered, coder-numbered, decoder-numbered, called-workless, every-call-is-answered}
 

@@ -3,7 +3,7 @@
 use mathlib.Core.Path.{_≡_, refl, sym, ap, subst, _∙_}
 use mathlib.Core.Logic.{_↔_, _≢_, inl, inr, ⊎-elim}
 use mathlib.Core.Bool.{Bool, true, false, not, false≢true}
-use mathlib.Core.List.{List, [], _∷_}
+use mathlib.Core.List.{List}
 use mathlib.Core.Option.{Option, none, some, Option·elim}
 use Prim.Native.Nat.{ℕ, suc, _+_}
 use native.Mathlib.Omega.{arith}
@@ -23,7 +23,7 @@ use Rattle.decoder.specs.Decoder.{DecodeResult, decodeLentChecks, decodePathChe
 use Rattle.sheet.specs.Sheet.{messageBits, messageAt, valuesOf, rowValues, loudLine, firstFault, faultLine, sizeFits, textChecks, sheetChecks, callOf, lentFor, refusalText, resultText, printed, answer}
 use Rattle.sheet.specs.laws.Loud.{loud-first, rows-count}
 use Rattle.sheet.specs.laws.Answers.{sheet-reply, frame-reply, result-long, result-feeds}
-use Rattle.demands.specs.Answered.{sheetRules, IsFaultyLine, IsLoudLine, IsRefusal, IsResult, IsAnswer}
+use Rattle.demands.specs.Answered.{sheetRules, IsFaultyLine, IsLoudLine, IsResult, IsAnswer}
 use Rattle.demands.specs.laws.EveryDecoding.{every-decoding-means}
 use Rattle.demands.specs.laws.FaultyLines.{faulty-line}
 use Rattle.demands.specs.laws.Determined.{decoding-exactly}

@@ -1,4 +1,4 @@
--- Laws of a check and of checks in turn: when they are done, and which refusal a chain of them gives. The numbers of refusals are small.
+-- Laws of a check and of replies in turn: when they are done, and which refusal decides. The numbers of refusals are small.
 -- Assumes nothing.
 use mathlib.Core.Path.{_≡_, refl, sym, _∙_}
 use mathlib.Core.Logic.{_↔_}
@@ -27,10 +27,6 @@ pub then-is-done : (x y : Reply) → ((x then y) ≡ Done) ↔ ((x ≡ Done) × 
 unfolding _then_
 then-is-done Done y = (λ e. (refl, e), λ e. e .1)
 then-is-done (Refused r) y = (λ e. absurd (refused-is-not-done e), λ e. e .0)
-
--- a chain that is done: its first test passes, and the rest of it is done
-pub first-passed : (b : Bool) (r : Refusal) (rest : Reply) → (check b r then rest) ≡ Done → (b ≡ true) × (rest ≡ Done)
-first-passed b r rest e = let (x, y) = then-is-done (check b r) rest .0 e in (check-is-done b r .0 x, y)
 
 -- ---- the first refusal
 
@@ -72,7 +68,8 @@ check-again false r s rest = refl
 
 -- ---- numbers
 
-pub number-small : (r : Refusal) → told r .number ≤ 16
+-- each fits a byte
+pub number-small : (r : Refusal) → told r .number ≤ 255
 unfolding told
 number-small (Text line) = omega arith
 number-small Shape = omega arith

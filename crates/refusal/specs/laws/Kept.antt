@@ -1,5 +1,5 @@
--- What a chain of checks can give, by a test on each of its refusals. What replies leave: refusals other than 12 and 13, and chains of checks that give
--- no other, leave the working list as it was; and a result list is the new one after success alone.
+-- What a reply can be, by a test on its refusal. What replies leave: refusals other than 12 and 13 leave the working list as it was, and a result list is the
+-- new one after success alone.
 -- Assumes nothing.
 use mathlib.Core.Path.{_≡_, refl, sym}
 use mathlib.Core.Logic.{_≢_}

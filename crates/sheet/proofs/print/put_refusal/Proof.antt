@@ -19,7 +19,7 @@ number-of-refusal-requires c κs = search needs
 
 cast-number : tie.Need-cast-number
 cast-number c =
-    let small : c .number-of-refusal .result ≤ 16 = rw (c .number-of-refusal .ensures) (number-small (c .before .before .args .why)) in
+    let small : c .number-of-refusal .result ≤ 255 = rw (c .number-of-refusal .ensures) (number-small (c .before .before .args .why)) in
     simp ints (omega arith)
 
 place-of-refusal-requires : tie.Need-place-of-refusal-requires

@@ -6,7 +6,7 @@ use Prim.Native.Nat.{_^_, min}
 use native.Mathlib.Omega.{arith}
 use borrow.Author.Needs.{needs}
 use borrow.Author.Tests.{not-true, not-false}
-use Rattle.refusal.specs.declared.Refusal.the-variants.{Shape, Branch}
+use Rattle.refusal.specs.declared.Refusal.the-variants.{Shape}
 use Rattle.refusal.specs.Refusals.{firstOf}
 use Rattle.refusal.specs.laws.Checks.{fails-first, passes-first}
 use Rattle.refusal.specs.laws.InTurn.{Each, each-done}
