@@ -42,6 +42,11 @@ pub record IsFaultyLine (sheet : List ℕ) (line : ℕ) : Type 0 where
       ⊎ ((index ≡ length (linesOf sheet)) × (isEmpty (lastPiece sheet) ≡ false))
   pub fit-before : (i : ℕ) → i < index → lineFits (messageBits sheet) i (getD (linesOf sheet) i []) ≡ true
 
+-- and there is none: every line keeps the rules, and each is ended by its line feed
+pub record IsFaultless (sheet : List ℕ) : Type 0 where
+  pub fit : (i : ℕ) → i < length (linesOf sheet) → lineFits (messageBits sheet) i (getD (linesOf sheet) i []) ≡ true
+  pub ended : isEmpty (lastPiece sheet) ≡ true
+
 -- the line of the first value outside its limits, row by row: the row there has one, and no row before it has. The header is line 1
 pub record IsLoudLine (sheet : List ℕ) (line : ℕ) : Type 0 where
   pub row : ℕ
@@ -64,6 +69,7 @@ pub record IsRefusal (sheet text : List ℕ) : Type 0 where
 -- the sheet's frame. No other line feed is in it
 pub record IsResult (sheet text : List ℕ) : Type 0 where
   pub unbroken : allHold (sheetRules sheet) ≡ true
+  pub faultless : IsFaultless sheet
   pub result : DecodeResult
   pub decoding : IsDecoding (callOf sheet) (lentFor sheet) result
   pub done : result .reply ≡ Done

@@ -23,9 +23,9 @@ use Rattle.decoder.specs.Decoder.{DecodeResult, decodeLentChecks, decodePathChe
 use Rattle.sheet.specs.Sheet.{messageBits, messageAt, valuesOf, rowValues, loudLine, firstFault, faultLine, sizeFits, textChecks, sheetChecks, callOf, lentFor, refusalText, resultText, printed, answer}
 use Rattle.sheet.specs.laws.Loud.{loud-first, rows-count}
 use Rattle.sheet.specs.laws.Answers.{sheet-reply, frame-reply, result-long, result-feeds}
-use Rattle.demands.specs.Answered.{sheetRules, IsFaultyLine, IsLoudLine, IsResult, IsAnswer}
+use Rattle.demands.specs.Answered.{sheetRules, IsFaultyLine, IsFaultless, IsLoudLine, IsResult, IsAnswer}
 use Rattle.demands.specs.laws.EveryDecoding.{every-decoding-means}
-use Rattle.demands.specs.laws.FaultyLines.{faulty-line}
+use Rattle.demands.specs.laws.FaultyLines.{faulty-line, faultless-lines}
 use Rattle.demands.specs.laws.Determined.{decoding-exactly}
 
 module _ (sheet : List ℕ) where
@@ -72,10 +72,19 @@ module _ (sheet : List ℕ) where
     unfolding callOf
     all-lines = result-long (callOf sheet) (lentFor sheet) frame-replied ∙ listed-length (λ k. messageAt sheet k .to) (messageBits sheet)
 
+    no-fault : IsFaultless sheet
+    unfolding sheetRules Each found
+    no-fault = faultless-lines sheet (go (firstFault sheet) (each-holds (sheetRules sheet) unbroken .1 .0))
+      where
+        go : (f : Option ℕ) → not (found f) ≡ true → f ≡ none
+        go none e = refl
+        go (some i) e = absurd (false≢true e)
+
     is-result : IsResult sheet (answer sheet)
     unfolding resultText
     is-result = record {
       unbroken = done-exactly (sheetRules sheet) .0 unbroken;
+      faultless = no-fault;
       result = frame-result;
       decoding = every-decoding-means (callOf sheet) (lentFor sheet) frame-passes;
       done = frame-replied;

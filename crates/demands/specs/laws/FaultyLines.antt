@@ -1,4 +1,5 @@
--- The first faulty line of a sheet: that line breaks the rules, or it is a last piece without its line feed, and no line before it does.
+-- The first faulty line of a sheet: that line breaks the rules, or it is a last piece without its line feed, and no line before it does. Where there is none,
+-- every line keeps them.
 -- Assumes nothing.
 use mathlib.Core.Path.{_≡_, refl, sym, _∙_}
 use mathlib.Core.Logic.{inl, inr}
@@ -11,7 +12,7 @@ use native.Mathlib.Omega.{arith}
 use lib.ListN.{length, getD}
 use Rattle.lists.specs.Lists.{isEmpty}
 use Rattle.sheet.specs.Sheet.{linesOf, lastPiece, messageBits, lineFits, faultFrom, firstFault}
-use Rattle.demands.specs.Answered.{IsFaultyLine}
+use Rattle.demands.specs.Answered.{IsFaultyLine, IsFaultless}
 
 -- of lines counted from `from`, number i is the first that breaks the rules
 record Fault (k from : ℕ) (lines : List (List ℕ)) (i : ℕ) : Type 0 where
@@ -95,3 +96,16 @@ faulty-line sheet i e = go (faultFrom (messageBits sheet) 0 (linesOf sheet)) ref
           faulty = inr (sym long, unended);
           fit-before = λ j h. rw (zeroth j) at (fault-free (messageBits sheet) 0 (linesOf sheet) f j (omega (arith, long)));
         }
+
+pub faultless-lines : (sheet : List ℕ) → firstFault sheet ≡ none → IsFaultless sheet
+unfolding firstFault orElse
+faultless-lines sheet e = go (faultFrom (messageBits sheet) 0 (linesOf sheet)) refl (isEmpty (lastPiece sheet)) refl e
+  where
+    zeroth : (j : ℕ) → 0 + j ≡ j
+    zeroth j = omega arith
+
+    go : (f : Option ℕ) → faultFrom (messageBits sheet) 0 (linesOf sheet) ≡ f → (b : Bool) → isEmpty (lastPiece sheet) ≡ b →
+        orElse f (cond b none (some (length (linesOf sheet)))) ≡ none → IsFaultless sheet
+    go (some n) f b g e = absurd (Option·some-ne-none n e)
+    go none f false g e = absurd (Option·some-ne-none (length (linesOf sheet)) e)
+    go none f true g e = record { fit = λ i h. rw (zeroth i) at (fault-free (messageBits sheet) 0 (linesOf sheet) f i h); ended = g }
