@@ -1,10 +1,8 @@
 -- `sizes_reply` makes its checks in turn, as the definition has them.
 -- Assumes nothing.
-use mathlib.Core.List.{[], _∷_}
 use borrow.Author.Needs.{needs}
-use Rattle.refusal.specs.declared.Refusal.the-variants.{Polynomial, Length, Lists}
-use Rattle.refusal.specs.Refusals.{_unless_}
-use Rattle.refusal.specs.laws.InTurn.{chained, chained-is}
+use Rattle.refusal.specs.Refusals.{firstOf}
+use Rattle.refusal.specs.laws.Checks.{then-done}
 use Rattle.polynomial.specs.Polynomial.{bitsFit, sizeChecks}
 use Rattle.polynomial.proofs.sizes_reply.Statement.{statement}
 use Rattle.polynomial.proofs.sizes_reply.Tie as tie
@@ -31,7 +29,7 @@ first-of-requires-2 : tie.Need-first-of-requires-2
 first-of-requires-2 c κs = search needs
 
 returns : tie.Need-returns
-unfolding sizeChecks bitsFit chained
+unfolding sizeChecks bitsFit firstOf
 returns c =
     let list = c .before .before in
     let bits = list .before in
@@ -45,7 +43,7 @@ returns c =
       coefficients .check .ensures,
       coefficients .before .coefficients-fit .ensures,
     )
-    (chained-is (Polynomial unless _ ∷ Length unless _ ∷ []) (Lists unless _))
+    (simp then-done)
 
 pub sizes-reply-spec : {M : Type 1} → statement M
 sizes-reply-spec =

@@ -47,15 +47,15 @@ enum-known-why-3 c = search needs
 
 returns : tie.Need-returns
 unfolding told
-returns c = search needs
+returns c = rw (c .before .why .given .1)
 
 returns-2 : tie.Need-returns-2
 unfolding told
-returns-2 c = search needs
+returns-2 c = rw (c .before .why2 .given .1)
 
 returns-3 : tie.Need-returns-3
 unfolding told
-returns-3 c = search needs
+returns-3 c = rw (c .before .why3 .given .1)
 
 returns-4 : tie.Need-returns-4
 returns-4 c = placeless _ (c .match .keys4)

@@ -60,6 +60,9 @@ unfolding _then_
 done-after Done e = sym e
 done-after (Refused r) e = refl
 
+pub then-done : (x : Reply) → (x then Done) ≡ x
+then-done x = sym (done-after x refl)
+
 -- a check made twice is made once, whatever the second would tell
 pub check-again : (b : Bool) (r s : Refusal) (rest : Reply) → (check b r then check b s then rest) ≡ (check b r then rest)
 unfolding check _then_

@@ -45,20 +45,6 @@ unfolding firstOf
 held-out [] c ys e = done-then (check-is-done (c .holds) (c .refusal) .1 e)
 held-out (x ∷ xs) c ys e = ap (λ (r : Reply). check (x .holds) (x .refusal) then r) (held-out xs c ys e)
 
--- checks one after the other, the last of them d, as code makes them
-unfoldable pub chained : List Check → Check → Reply
-chained [] d = check (d .holds) (d .refusal)
-chained (c ∷ cs) d = check (c .holds) (c .refusal) then chained cs d
-
-pub chained-is : (cs : List Check) (d : Check) → chained cs d ≡ firstOf (cs ++ (d ∷ []))
-unfolding chained firstOf
-chained-is [] d = done-after (check (d .holds) (d .refusal)) refl
-chained-is (c ∷ cs) d = ap (λ (r : Reply). check (c .holds) (c .refusal) then r) (chained-is cs d)
-
--- so too where the first is a reply of its own
-pub chained-after : (c : Check) (cs : List Check) (d : Check) → (firstOf (c ∷ []) then chained cs d) ≡ firstOf (c ∷ cs ++ (d ∷ []))
-chained-after c cs d = ap (λ (r : Reply). firstOf (c ∷ []) then r) (chained-is cs d) ∙ sym (first-of-both (c ∷ []) (cs ++ (d ∷ [])))
-
 -- ---- done
 
 -- each test of a list holds, one after the other

@@ -1,10 +1,8 @@
 -- `checks::entries_reply` makes its checks in turn, as the definition has them.
 -- Assumes nothing.
-use mathlib.Core.List.{[], _∷_}
 use borrow.Author.Needs.{needs}
-use Rattle.refusal.specs.declared.Refusal.the-variants.{Bit, Pattern, Mask, Coder}
-use Rattle.refusal.specs.Refusals.{_unless_}
-use Rattle.refusal.specs.laws.InTurn.{chained, chained-is}
+use Rattle.refusal.specs.Refusals.{firstOf}
+use Rattle.refusal.specs.laws.Checks.{then-done}
 use Rattle.coder.proofs.checks.entries_reply.Statement.{statement}
 use Rattle.coder.proofs.checks.entries_reply.Tie as tie
 
@@ -42,7 +40,7 @@ first-of-requires-3 : tie.Need-first-of-requires-3
 first-of-requires-3 c κs = search needs
 
 returns : tie.Need-returns
-unfolding chained
+unfolding firstOf
 returns c =
     let coded = c .before .before .before in
     let masked = coded .before .before in
@@ -61,7 +59,7 @@ returns c =
       read .check .ensures,
       read .before .all-below .ensures,
     )
-    (chained-is (Bit unless _ ∷ Pattern unless _ ∷ Mask unless _ ∷ []) (Coder unless _))
+    (simp then-done)
 
 pub entries-reply-spec : {M : Type 1} → statement M
 entries-reply-spec =

@@ -1,11 +1,8 @@
 -- `checks::entries_reply` makes its checks in turn, as the definition has them.
 -- Assumes nothing.
-use mathlib.Core.List.{[], _∷_}
 use borrow.Author.Needs.{needs}
-use Rattle.refusal.specs.declared.Refusal.the-variants.{Pattern, Mask, Iterations, Coder}
-use Rattle.refusal.specs.Refusals.{_unless_}
-use Rattle.refusal.specs.laws.InTurn.{chained, chained-after}
-use Rattle.trellis.specs.Limits.{channelCheck}
+use Rattle.refusal.specs.Refusals.{firstOf}
+use Rattle.refusal.specs.laws.Checks.{then-done}
 use Rattle.decoder.proofs.checks.entries_reply.Statement.{statement}
 use Rattle.decoder.proofs.checks.entries_reply.Tie as tie
 
@@ -49,7 +46,7 @@ first-of-requires-4 : tie.Need-first-of-requires-4
 first-of-requires-4 c κs = search needs
 
 returns : tie.Need-returns
-unfolding chained
+unfolding firstOf
 returns c =
     let last = c .before .before .before .before in
     let counted = last .before .before in
@@ -70,7 +67,7 @@ returns c =
       ordered .before .permutes .ensures,
       ordered .before .before .channel-reply .ensures,
     )
-    (chained-after (channelCheck _) (Pattern unless _ ∷ Mask unless _ ∷ Iterations unless _ ∷ []) (Coder unless _))
+    (simp then-done)
 
 pub entries-reply-spec : {M : Type 1} → statement M
 entries-reply-spec =

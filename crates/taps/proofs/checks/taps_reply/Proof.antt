@@ -1,10 +1,8 @@
 -- `checks::taps_reply` makes its checks in turn, as the definition has them.
 -- Assumes nothing.
-use mathlib.Core.List.{[], _∷_}
 use borrow.Author.Needs.{needs}
-use Rattle.refusal.specs.declared.Refusal.the-variants.{Shape, Polynomial}
-use Rattle.refusal.specs.Refusals.{_unless_}
-use Rattle.refusal.specs.laws.InTurn.{chained, chained-is}
+use Rattle.refusal.specs.Refusals.{firstOf}
+use Rattle.refusal.specs.laws.Checks.{then-done}
 use Rattle.taps.proofs.checks.taps_reply.Statement.{statement}
 use Rattle.taps.proofs.checks.taps_reply.Tie as tie
 
@@ -24,7 +22,7 @@ first-of-requires : tie.Need-first-of-requires
 first-of-requires c κs = search needs
 
 returns : tie.Need-returns
-unfolding chained
+unfolding firstOf
 returns c =
     let taps = c .before in
     let lists = taps .before .before in
@@ -35,7 +33,7 @@ returns c =
       lists .check .ensures,
       lists .before .lists-fit .ensures,
     )
-    (chained-is (Shape unless _ ∷ []) (Polynomial unless _))
+    (simp then-done)
 
 pub taps-reply-spec : {M : Type 1} → statement M
 taps-reply-spec =
