@@ -72,7 +72,7 @@ frameLists l = (l .bits, (l .margins, l .extrinsics))
 abbrev pub tableLists : TapsLent → List ℕ × List ℕ
 tableLists l = (l .next, l .words)
 
--- whatever is lent
+-- whatever is lent. An entry that is lent no working list has an empty one here. A sheet's reply is in what is printed for it
 pub record EveryCall : Type 0 where
   pub lone : (c : Call) (l : Lent) →
       let x = loneDecode c l in
