@@ -74,15 +74,15 @@ handOn f s = interleave (pos 0) (f .pattern) (map handOver (s .extrinsics))
 unfoldable pub handBack : Frame → Soft → List ℤ
 handBack f s = deinterleave (pos 0) (f .pattern) (map handOver (s .extrinsics))
 
+-- the a-priori values of pass 2, by the channel values of pass 1 and its a-priori values
+unfoldable pub handedOn : Frame → List ℤ → List ℤ → List ℤ
+handedOn f first a = handOn f (pass f (f .first) first a)
+
 -- by the channel values of pass 1 and of pass 2
 module _ (f : Frame) (first second : List ℤ) where
-  -- the a-priori values of pass 2, from those of pass 1
-  unfoldable pub handedOn : List ℤ → List ℤ
-  handedOn a = handOn f (pass f (f .first) first a)
-
   -- an iteration is pass 1, then pass 2: what pass 2 says, from the a-priori values of pass 1
   unfoldable pub iteration : List ℤ → Soft
-  iteration a = pass f (f .second) second (handedOn a)
+  iteration a = pass f (f .second) second (handedOn f first a)
 
   -- the a-priori values of pass 1 after i iterations, the first of them from a
   unfoldable pub priorAfter : List ℤ → ℕ → List ℤ
@@ -152,6 +152,7 @@ bothFree f =
     (any (forced (f .table) (f .first) (sections1 f)) (upto (f .bits))
     || any (forced (f .table) (f .second) (sections2 f)) (upto (f .bits)))
 
+-- the checks of the paths, in their order
 unfoldable pub decodePathChecks : Frame → List Check
 decodePathChecks f = NoPath unless bothWalked f ∷ ForcedPosition unless bothFree f ∷ []
 

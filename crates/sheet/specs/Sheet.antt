@@ -129,6 +129,7 @@ rowValues sheet = listed (messageValues sheet) (messageBits sheet) ++ listed (ta
 unfoldable pub loudLine : List ℕ → ℕ
 loudLine sheet = firstFailing channelFits (rowValues sheet) + 2
 
+-- 6 with that line
 abbrev pub lineCheck : List ℕ → Check
 lineCheck sheet = Value (loudLine sheet) unless channelFits (valuesOf sheet)
 

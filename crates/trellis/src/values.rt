@@ -1,8 +1,8 @@
 // The checks of channel and a-priori values, and where the first value outside its limits sits.
 ghost use mathlib.Core.Bool.{cond};
+ghost use mathlib.Core.List.{[], _∷_};
 ghost use mathlib.Core.Path.{_≡_};
 ghost use lib.Dec.{ltb};
-ghost use mathlib.Core.List.{[], _∷_};
 ghost use Rattle.refusal.specs.Refusals.{firstOf};
 ghost use Rattle.trellis.specs.Limits.{firstOutside, channelCheck, aprioriCheck};
 use crate::checks::all_inside;

@@ -87,7 +87,7 @@ module _ (f : Frame) (r : List ℤ) (w : Permutes (f .bits) (f .pattern)) where
   firstPass i = passOver f (f .first) (channel1 f r) (prior i)
 
   secondPass : ℕ → Pass
-  secondPass i = passOver f (f .second) (channel2 f r) (handedOn f (channel1 f r) (channel2 f r) (prior i))
+  secondPass i = passOver f (f .second) (channel2 f r) (handedOn f (channel1 f r) (prior i))
 
   prior-long : (i : ℕ) → length (prior i) ≡ f .bits
   unfolding priorAfter handBack
@@ -147,7 +147,7 @@ module _ (f : Frame) (r : List ℤ) (w : Permutes (f .bits) (f .pattern)) where
       l .extrinsics ≡ deinterleave (pos 0) (f .pattern) (decodedPass f r n .extrinsics) → AreWritten f (secondPass (n - 1)) l
   unfolding lastPass iteration patternAt secondPass decided
   lists-written n l free bits margins extrinsics =
-      let a = handedOn f (channel1 f r) (channel2 f r) (prior (n - 1)) in
+      let a = handedOn f (channel1 f r) (prior (n - 1)) in
       let s = pass f (f .second) (channel2 f r) a in
       record {
         bits-long = rw bits (deinterleave-length 0 (f .bits) (f .pattern) w _);

@@ -28,7 +28,7 @@ module _ {f : Frame} {message : List ℕ} {r : List ℤ} (heard : IsHeard f mess
   permuted = checked f (heard .framed) .permutes
 
   module _ {a : List ℤ} (told : Leans (f .bits) message a) where
-    handed-on : Leans (f .bits) interleaved (handedOn f (channel1 f r) (channel2 f r) a)
+    handed-on : Leans (f .bits) interleaved (handedOn f (channel1 f r) a)
     unfolding handedOn handOn
     handed-on =
         interleaved-leans permuted (handed-leans (extrinsics-lean f (heard .framed) (heard .first-coder) (first-agrees heard) told))
