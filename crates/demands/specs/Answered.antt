@@ -12,7 +12,7 @@ use Rattle.lists.specs.Lists.{joined, count, isEmpty, found}
 use Rattle.text.specs.Text.{bytes, lineFeed}
 use Rattle.text.specs.Decimal.{digits}
 use Rattle.refusal.specs.declared.Refusal.{Refusal}
-use Rattle.refusal.specs.declared.Refusal.the-variants.{Text, Value, Pattern}
+use Rattle.refusal.specs.declared.Refusal.the-variants.{Text, ValueInLine, Pattern}
 use Rattle.refusal.specs.declared.Reply.the-variants.{Done}
 use Rattle.refusal.specs.Refusals.{told, Check, _unless_}
 use Rattle.refusal.specs.Replied.{allHold, IsFirstToFail}
@@ -29,7 +29,7 @@ unfoldable pub sheetRules : List ℕ → List Check
 sheetRules sheet =
     Text 0 unless sizeFits sheet
     ∷ Text (faultLine sheet) unless not (found (firstFault sheet))
-    ∷ Value (loudLine sheet) unless channelFits (valuesOf sheet)
+    ∷ ValueInLine (loudLine sheet) unless channelFits (valuesOf sheet)
     ∷ Pattern unless permutes (messageBits sheet) (callOf sheet .frame .pattern)
     ∷ []
 
@@ -60,7 +60,7 @@ pub record IsRefusal (sheet text : List ℕ) : Type 0 where
   pub refusal : Refusal
   pub first : IsFirstToFail (sheetRules sheet) refusal
   pub faulty : (line : ℕ) → refusal ≡ Text line → line ≢ 0 → IsFaultyLine sheet line
-  pub loud : (line : ℕ) → refusal ≡ Value line → IsLoudLine sheet line
+  pub loud : (line : ℕ) → refusal ≡ ValueInLine line → IsLoudLine sheet line
   pub whole : text ≡ bytes "refused line\n" ++ digits (told refusal .number) ++ bytes " " ++ digits (told refusal .place) ++ bytes "\n"
 
 -- ---- decoded

@@ -11,7 +11,7 @@ use Rattle.lists.specs.Lists.{listed, joined, firstFailing, isEmpty, found}
 use Rattle.text.specs.Text.{bytes, lineFeed, cut, same}
 use Rattle.text.specs.Decimal.{digits, decimal}
 use Rattle.refusal.specs.declared.Refusal.{Refusal}
-use Rattle.refusal.specs.declared.Refusal.the-variants.{Text, Value}
+use Rattle.refusal.specs.declared.Refusal.the-variants.{Text, ValueInLine}
 use Rattle.refusal.specs.declared.Reply.{Reply}
 use Rattle.refusal.specs.declared.Reply.the-variants.{Done, Refused}
 use Rattle.refusal.specs.Refusals.{told, Check, _unless_, firstOf}
@@ -131,7 +131,7 @@ loudLine sheet = firstFailing channelFits (rowValues sheet) + 2
 
 -- 6 with that line
 abbrev pub lineCheck : List ℕ → Check
-lineCheck sheet = Value (loudLine sheet) unless channelFits (valuesOf sheet)
+lineCheck sheet = ValueInLine (loudLine sheet) unless channelFits (valuesOf sheet)
 
 -- ---- the answer
 

@@ -12,7 +12,7 @@ use borrow.Author.Tests.{not-false}
 use Rattle.lists.specs.Lists.{firstFailing, found}
 use Rattle.lists.specs.laws.Listed.{listed-length}
 use Rattle.refusal.specs.declared.Refusal.{Refusal}
-use Rattle.refusal.specs.declared.Refusal.the-variants.{Text, Value, Pattern}
+use Rattle.refusal.specs.declared.Refusal.the-variants.{Text, ValueInLine, Pattern}
 use Rattle.refusal.specs.declared.Reply.{Reply}
 use Rattle.refusal.specs.declared.Reply.the-variants.{Done, Refused}
 use Rattle.refusal.specs.Refusals.{told, check, _then_, firstOf}
@@ -117,7 +117,7 @@ module _ (sheet : List ℕ) where
       go (some i) is h = faulty-line sheet i is
 
   refused : (r : Refusal) → firstOf (sheetRules sheet) ≡ Refused r → ((line : ℕ) → r ≡ Text line → line ≢ 0 → IsFaultyLine sheet line) →
-      ((line : ℕ) → r ≡ Value line → IsLoudLine sheet line) → IsAnswer sheet (answer sheet)
+      ((line : ℕ) → r ≡ ValueInLine line → IsLoudLine sheet line) → IsAnswer sheet (answer sheet)
   unfolding IsAnswer refusalText
   refused r e faulty loud =
       inl (record { refusal = r; first = first-is-reply (sheetRules sheet) .refused r .0 e; faulty = faulty; loud = loud; whole = answer-refused r e })
@@ -138,7 +138,7 @@ module _ (sheet : List ℕ) where
       (λ line is some. subst (IsFaultyLine sheet) (ap (λ (x : Refusal). told x .place) is) (told-line eb))
       (λ line is. absurd (told-apart (λ n. omega arith) is))
   tested true true false d ea eb ec ed =
-      refused (Value (loudLine sheet)) (rw (ea, eb, ec) refl) (λ line is some. absurd (told-apart (λ n. omega arith) is))
+      refused (ValueInLine (loudLine sheet)) (rw (ea, eb, ec) refl) (λ line is some. absurd (told-apart (λ n. omega arith) is))
       (λ line is. subst (IsLoudLine sheet) (ap (λ (x : Refusal). told x .place) is) (loud-line ec))
   tested true true true false ea eb ec ed =
       refused Pattern (rw (ea, eb, ec, ed) refl) (λ line is some. absurd (told-apart (λ n. omega arith) is)) (λ line is. absurd (told-apart (λ n. omega arith) is))

@@ -15,7 +15,7 @@ use Rattle.lists.specs.laws.Every.{every-append, every-at}
 use Rattle.lists.specs.laws.First.{IsFirst, first-fails}
 use Rattle.lists.specs.laws.Listed.{listed-length, listed-at, listed-ext, joined-length, joined-at}
 use Rattle.lists.specs.laws.Tests.{and-both, and-true}
-use Rattle.refusal.specs.declared.Refusal.the-variants.{Value}
+use Rattle.refusal.specs.declared.Refusal.the-variants.{ValueInLine}
 use Rattle.refusal.specs.declared.Reply.{Reply}
 use Rattle.refusal.specs.declared.Reply.the-variants.{Done, Refused}
 use Rattle.refusal.specs.Refusals.{check}
@@ -61,7 +61,7 @@ unfoldable pub rowsIn : ℕ → List ℤ → List (List ℤ)
 rowsIn k values = listed (λ i. messageFrom values (3 * i)) k ++ listed (λ j. tailFrom values (3 * k + 2 * j)) 2
 
 unfoldable pub loudIn : ℕ → List ℤ → Reply
-loudIn k values = check (channelFits values) (Value (firstFailing channelFits (rowsIn k values) + 2))
+loudIn k values = check (channelFits values) (ValueInLine (firstFailing channelFits (rowsIn k values) + 2))
 
 module _ (k : ℕ) (values : List ℤ) where
   pub rows-long : length (rowsIn k values) ≡ k + 2
@@ -83,7 +83,7 @@ module _ (k : ℕ) (values : List ℤ) where
       ∙ getD-append-add messages _ (i - k) []
       ∙ listed-at _ 2 (i - k) [] (omega arith)
 
-  pub loud-refused : channelFits values ≡ false → Refused (Value (firstFailing channelFits (rowsIn k values) + 2)) ≡ loudIn k values
+  pub loud-refused : channelFits values ≡ false → Refused (ValueInLine (firstFailing channelFits (rowsIn k values) + 2)) ≡ loudIn k values
   unfolding loudIn
   loud-refused e = fails e
 
@@ -150,9 +150,9 @@ module _ (sheet : List ℕ) where
   unfolding rowsIn rowValues
   rows-are = ap₂ _++_ (listed-ext _ _ k message-is) (listed-ext _ _ 2 tail-is)
 
-  pub loud-is : loudIn k (valuesOf sheet) ≡ check (channelFits (valuesOf sheet)) (Value (loudLine sheet))
+  pub loud-is : loudIn k (valuesOf sheet) ≡ check (channelFits (valuesOf sheet)) (ValueInLine (loudLine sheet))
   unfolding loudIn loudLine
-  loud-is = ap (λ (rows : List (List ℤ)). check (channelFits (valuesOf sheet)) (Value (firstFailing channelFits rows + 2))) rows-are
+  loud-is = ap (λ (rows : List (List ℤ)). check (channelFits (valuesOf sheet)) (ValueInLine (firstFailing channelFits rows + 2))) rows-are
 
   -- ---- where a value is outside its limits, a row has one
 

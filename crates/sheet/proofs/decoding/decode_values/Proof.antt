@@ -8,7 +8,7 @@ use lib.ListN.{length}
 use borrow.Author.Tests.{not-true, not-false}
 use borrow.Author.Needs.{needs}
 use Rattle.lists.specs.laws.Lending.{Back, front-long, front-back}
-use Rattle.refusal.specs.declared.Refusal.the-variants.{Value}
+use Rattle.refusal.specs.declared.Refusal.the-variants.{ValueInLine}
 use Rattle.refusal.specs.declared.Reply.the-variants.{Refused}
 use Rattle.refusal.specs.Refusals.{told}
 use Rattle.refusal.specs.laws.Checks.{refused-then}
@@ -57,7 +57,7 @@ returns c =
     let ran = test .before .before in
     let w = call .put-refusal .ensures in
     let loud = sym (ran .narrow-all .ensures .0) ∙ not-true _ (test .if1 .taken) in
-    let told = ap (λ (n : ℕ). Refused (Value n)) (line .loud-line .ensures .0) ∙ loud-refused _ _ loud in
+    let told = ap (λ (n : ℕ). Refused (ValueInLine n)) (line .loud-line .ensures .0) ∙ loud-refused _ _ loud in
     record { few = w .few; is = w .is ∙ printed-refused _ _ (refused-then _ (sym told)) }
 
 array-share-prefix-received : tie.Need-array-share-prefix-received
