@@ -36,7 +36,8 @@ fn tell(reply: Reply, index: &mut u64) -> u32
     refusal::number_of(reply)
 }
 
-// The lone decoder.
+// The lone decoder: a pass over one trellis. It writes the three result lists after success alone, clears the working list after success and 12, and leaves
+// all of them as they were after any other refusal.
 #[no_mangle]
 pub extern "C" fn turbo_lone_decode(
     states: usize,
@@ -84,7 +85,7 @@ pub extern "C" fn turbo_lone_decode(
     tell(reply, index)
 }
 
-// The coder.
+// The coder: the bits sent for a message, to `sent`, which stays as it was where the call is refused.
 #[no_mangle]
 pub extern "C" fn turbo_encode(
     states: usize,
@@ -132,7 +133,8 @@ pub extern "C" fn turbo_encode(
     ))
 }
 
-// The frame decoder.
+// The frame decoder. It writes the three result lists after success alone, clears the working list after success, 12 and 13, and leaves all of them as they
+// were after any other refusal.
 #[no_mangle]
 pub extern "C" fn turbo_decode(
     states: usize,
@@ -191,7 +193,8 @@ pub extern "C" fn turbo_decode(
     tell(reply, index)
 }
 
-// The sheet. An answer has from 1 to 24,600 bytes, so 0 says that the list has no room for it, and one of 24,600 entries always has.
+// The answer to a sheet, to `out`, and its length. An answer has from 1 to 24,600 bytes, so 0 says that the list has no room for it and is as it was, and one
+// of 24,600 entries always has.
 #[no_mangle]
 pub extern "C" fn turbo_sheet(sheet: &[u8], out: &mut [u8]) -> usize
     ensures { λ r. ⌜ r ≡ cond (leb (length (answerTo (now (sheet .entry)))) (length (now (out .entry))))
@@ -229,7 +232,7 @@ fn write(entries: [u8; 8], list: &mut [u8]) -> u32
     0
 }
 
-// The house code's next states and words, for the entries above.
+// The house code's next states, to a list of eight; any other is refused by 5 and stays as it was.
 #[no_mangle]
 pub extern "C" fn turbo_house_next(list: &mut [u8]) -> u32
     ensures { λ r. ⌜ returned r (now (list .exit)) ≡ written (house .next) (now (list .entry)) ⌝ }
@@ -237,6 +240,7 @@ pub extern "C" fn turbo_house_next(list: &mut [u8]) -> u32
     write(turbo::house_next(), list)
 }
 
+// The house code's words, to a list of eight; any other is refused by 5 and stays as it was.
 #[no_mangle]
 pub extern "C" fn turbo_house_words(list: &mut [u8]) -> u32
     ensures { λ r. ⌜ returned r (now (list .exit)) ≡ written (house .words) (now (list .entry)) ⌝ }
@@ -244,7 +248,7 @@ pub extern "C" fn turbo_house_words(list: &mut [u8]) -> u32
     write(turbo::house_words(), list)
 }
 
-// A table from its taps.
+// The table that the taps give, to `next` and `words`; both stay as they were where it is refused.
 #[no_mangle]
 pub extern "C" fn turbo_taps_table(
     memory: usize,
@@ -262,7 +266,7 @@ pub extern "C" fn turbo_taps_table(
     refusal::number_of(turbo::taps_table(memory, feedback, parity, next, words))
 }
 
-// A pattern from its polynomial.
+// The pattern that a polynomial gives, to `pattern`, which stays as it was where it is refused.
 #[no_mangle]
 pub extern "C" fn turbo_polynomial_pattern(
     bits: usize,

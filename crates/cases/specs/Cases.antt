@@ -62,7 +62,7 @@ unfolding
     Interleaver.permutes Interleaver.place Interleaver.interleave Interleaver.deinterleave
     Decimal.numeral Decimal.natural Decimal.opposite Decimal.integer Decimal.digitsIn Decimal.digits Decimal.decimal
     Rows.fieldAt Rows.dash Rows.valueOrUnsent Rows.starts Rows.messageRow Rows.tailRow
-    Sheet.linesOf Sheet.lastPiece Sheet.rowCount Sheet.messageBits Sheet.lineFits Sheet.faultFrom Sheet.firstFault Sheet.faultLine Sheet.sizeFits Sheet.textChecks Sheet.messageAt Sheet.tailAt Sheet.valuesOf Sheet.callOf Sheet.lentFor Sheet.rowValues Sheet.loudLine Sheet.sheetChecks Sheet.refusalText Sheet.resultLine Sheet.resultText Sheet.printed Sheet.answer
+    Sheet.linesOf Sheet.lastPiece Sheet.rowCount Sheet.messageBits Sheet.lineFits Sheet.faultFrom Sheet.firstFault Sheet.faultLine Sheet.sizeFits Sheet.textChecks Sheet.messageAt Sheet.tailAt Sheet.valuesOf Sheet.sheetCallOf Sheet.lentFor Sheet.rowValues Sheet.valueLine Sheet.sheetChecks Sheet.refusalText Sheet.resultLine Sheet.resultText Sheet.printed Sheet.answer
     Text.bytes Text.onFirst Text.cut Text.same
 computed (lonePass c l r) = lonePass c l (Lone.decode c l)
 computed (sheet s a) = sheet s (Sheet.answer s)

@@ -89,7 +89,7 @@ pub fn place_of(reply: Reply) -> usize
     place_of_refusal(why)
 }
 
-// One check: refused by `why` unless it passes.
+// The reply to one check: refused by `why` unless it passes.
 pub fn check(passes: bool, why: Refusal) -> Reply
     ensures { λ r. ⌜ r ≡ checkOf passes why ⌝ }
 {
@@ -99,7 +99,7 @@ pub fn check(passes: bool, why: Refusal) -> Reply
     Reply::Refused(why)
 }
 
-// Two checks in turn: the first that refuses decides.
+// The reply to two checks in turn: the first that refuses decides.
 pub fn first_of(x: Reply, y: Reply) -> Reply
     ensures { λ r. ⌜ r ≡ (x then y) ⌝ }
 {

@@ -98,8 +98,8 @@ valuesOf sheet =
     ++ joined (λ j. tailAt sheet j .sys2 ∷ tailAt sheet j .par2 ∷ []) 2
 
 -- the house code, two zero ends, T = 2, eight iterations; every place has its value, as under mask 7
-unfoldable pub callOf : List ℕ → DecodeCall
-callOf sheet = record {
+unfoldable pub sheetCallOf : List ℕ → DecodeCall
+sheetCallOf sheet = record {
   frame = record {
     table = house;
     first = Zero;
@@ -126,12 +126,12 @@ unfoldable pub rowValues : List ℕ → List (List ℤ)
 rowValues sheet = listed (messageValues sheet) (messageBits sheet) ++ listed (tailValues sheet) 2
 
 -- the line of the first value outside its limits in that order, the header being 1
-unfoldable pub loudLine : List ℕ → ℕ
-loudLine sheet = firstFailing channelFits (rowValues sheet) + 2
+unfoldable pub valueLine : List ℕ → ℕ
+valueLine sheet = firstFailing channelFits (rowValues sheet) + 2
 
 -- 6 with that line
 abbrev pub lineCheck : List ℕ → Check
-lineCheck sheet = ValueInLine (loudLine sheet) unless channelFits (valuesOf sheet)
+lineCheck sheet = ValueInLine (valueLine sheet) unless channelFits (valuesOf sheet)
 
 -- ---- the answer
 
@@ -154,11 +154,11 @@ printed (Refused r) l = refusalText r
 
 -- all checks of a sheet: 1, then 6 with its line, stand before every other number that the frame decoder gives
 unfoldable pub sheetChecks : List ℕ → List Check
-sheetChecks sheet = textChecks sheet ++ (lineCheck sheet ∷ decodeChecks (callOf sheet) (lentFor sheet))
+sheetChecks sheet = textChecks sheet ++ (lineCheck sheet ∷ decodeChecks (sheetCallOf sheet) (lentFor sheet))
 
 -- what the program prints for a sheet
 unfoldable pub answer : List ℕ → List ℕ
-answer sheet = printed (firstOf (sheetChecks sheet)) (decode (callOf sheet) (lentFor sheet) .lists)
+answer sheet = printed (firstOf (sheetChecks sheet)) (decode (sheetCallOf sheet) (lentFor sheet) .lists)
 
 -- a text that is not empty and fits on a page, as every answer does
 pub record FitsPage (text : List ℕ) : Type 0 where

@@ -10,7 +10,7 @@ ghost use Rattle.sheet.specs.laws.Printing.{Wrote};
 mod decoding;
 mod faults;
 mod lines;
-mod loud;
+mod range;
 mod print;
 mod rows;
 mod values;
@@ -80,7 +80,8 @@ fn deliver(bytes: &[u8], out: &mut [u8]) -> usize
     print::put(out, 0, bytes)
 }
 
-// The answer to a sheet: its bytes, and how many they are; nothing where the list has no room for them. A list of 24,600 entries always has.
+// The answer to a sheet: its bytes, and how many they are. Entries of `out` behind them stay as they were, and so do all where the list has no room, which
+// is told by 0. A list of 24,600 entries always has room. The sheet is only read.
 pub fn answer(sheet: &[u8], out: &mut [u8]) -> usize
     ensures { λ r. ⌜ r ≡ cond (leb (length (answerTo (now (sheet .entry)))) (length (now (out .entry))))
         (length (answerTo (now (sheet .entry)))) 0 ⌝ }

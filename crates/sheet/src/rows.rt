@@ -4,7 +4,7 @@ ghost use mathlib.Core.Path.{_≡_};
 ghost use Rattle.text.specs.Decimal.{natural, integer};
 ghost use Rattle.text.specs.Lent.{naturalOf, integerOf};
 ghost use Rattle.sheet.specs.Rows.{fieldAt, dash, valueOrUnsent, starts as startsWith, messageRow, tailRow};
-ghost use Rattle.sheet.specs.laws.Reading.{heard, noMessage, noTail, messageShown, tailShown};
+ghost use Rattle.sheet.specs.laws.Reading.{receivedValue, noMessage, noTail, messageShown, tailShown};
 use crate::Message;
 use crate::Tail;
 use crate::lines::piece;
@@ -41,7 +41,7 @@ fn dash_at(line: &[u8], i: usize) -> bool
 
 // A value, or 0 for unsent.
 fn value_at(line: &[u8], i: usize) -> Integer
-    ensures { λ r. ⌜ integerOf r ≡ Option·map heard (valueOrUnsent (fieldAt (now (line .entry)) i)) ⌝ }
+    ensures { λ r. ⌜ integerOf r ≡ Option·map receivedValue (valueOrUnsent (fieldAt (now (line .entry)) i)) ⌝ }
 {
     if dash_at(line, i) {
         return Integer::Is(0);

@@ -16,13 +16,13 @@ use Rattle.sheet.specs.Sheet.{lineFits}
 use Rattle.sheet.specs.Rows.{MessageRow, TailRow, fieldAt, dash, valueOrUnsent, starts, messageRow, tailRow}
 
 -- an unsent value is received as 0
-abbrev pub heard : Option ℤ → ℤ
-heard x = Option·getD x (pos 0)
+abbrev pub receivedValue : Option ℤ → ℤ
+receivedValue x = Option·getD x (pos 0)
 
 -- a value that is sent is received as it is
-pub heard-sent : (o : Option ℤ) → o ≡ Option·map heard (Option·map (λ z. some z) o)
-heard-sent none = refl
-heard-sent (some z) = refl
+pub received-sent : (o : Option ℤ) → o ≡ Option·map receivedValue (Option·map (λ z. some z) o)
+received-sent none = refl
+received-sent (some z) = refl
 
 -- ---- message rows
 
@@ -34,7 +34,7 @@ aMessage to sys par par2 = record { fits = true; to = to; sys = sys; par = par; 
 
 unfoldable pub messageShown : Option MessageRow → Message
 messageShown none = noMessage
-messageShown (some m) = aMessage (m .to) (heard (m .sys)) (heard (m .par)) (heard (m .par2))
+messageShown (some m) = aMessage (m .to) (receivedValue (m .sys)) (receivedValue (m .par)) (receivedValue (m .par2))
 
 -- by the tests and the fields, in the order in which they are read
 unfoldable pub messageBy : Bool → Bool → Option ℕ → Option ℤ → Option ℤ → Option ℤ → Message
@@ -50,7 +50,7 @@ abbrev messageOf : ℕ → Option ℤ → Option ℤ → Option ℤ → MessageR
 messageOf to sys par par2 = record { to = to; sys = sys; par = par; par2 = par2 }
 
 message-fields : (a b : Bool) (t : Option ℕ) (s p q : Option (Option ℤ)) →
-    messageBy a b t (Option·map heard s) (Option·map heard p) (Option·map heard q)
+    messageBy a b t (Option·map receivedValue s) (Option·map receivedValue p) (Option·map receivedValue q)
     ≡ messageShown (cond (a && b) (bind t (λ to. bind s (λ sys. bind p (λ par. Option·map (λ par2. messageOf to sys par par2) q)))) none)
 unfolding messageBy messageShown bind
 message-fields false b t s p q = refl
@@ -63,9 +63,9 @@ message-fields true true (some t) (some s) (some p) (some q) = refl
 
 pub message-by : (k : ℕ) (line : List ℕ) {a b : Bool} {t : Option ℕ} {s p q : Option ℤ} →
     a ≡ starts k line → b ≡ dash (fieldAt line 5) → t ≡ natural (fieldAt line 1) →
-    s ≡ Option·map heard (valueOrUnsent (fieldAt line 2)) →
-    p ≡ Option·map heard (valueOrUnsent (fieldAt line 3)) →
-    q ≡ Option·map heard (valueOrUnsent (fieldAt line 4)) →
+    s ≡ Option·map receivedValue (valueOrUnsent (fieldAt line 2)) →
+    p ≡ Option·map receivedValue (valueOrUnsent (fieldAt line 3)) →
+    q ≡ Option·map receivedValue (valueOrUnsent (fieldAt line 4)) →
     messageBy a b t s p q ≡ messageShown (messageRow k line)
 unfolding messageRow
 message-by k line ea eb et es ep eq = rw (ea, eb, et, es, ep, eq) (message-fields _ _ _ (valueOrUnsent (fieldAt line 2)) (valueOrUnsent (fieldAt line 3)) (valueOrUnsent (fieldAt line 4)))

@@ -11,7 +11,7 @@ use borrow.Author.Needs.{needs}
 use Rattle.text.specs.Decimal.{natural}
 use Rattle.text.specs.Lent.{naturalOf, integerOf}
 use Rattle.sheet.specs.Rows.{fieldAt, dash, valueOrUnsent, starts}
-use Rattle.sheet.specs.laws.Reading.{heard, messageBy, message-by}
+use Rattle.sheet.specs.laws.Reading.{receivedValue, messageBy, message-by}
 use Rattle.sheet.proofs.rows.message.Statement.{statement}
 use Rattle.sheet.proofs.rows.message.Tie as tie
 
@@ -43,7 +43,7 @@ at3 c = c .before .before .before .before
 abbrev start3 : tie.After-known-told2 → tie.Start
 start3 c = start2 (at3 c)
 
-read3 : (c : tie.After-known-told2) → some (c .before .sys .given .0 .0) ≡ Option·map heard (valueOrUnsent (fieldAt (start3 c .args .line .now) 2))
+read3 : (c : tie.After-known-told2) → some (c .before .sys .given .0 .0) ≡ Option·map receivedValue (valueOrUnsent (fieldAt (start3 c .args .line .now) 2))
 read3 c = ap integerOf (sym (c .before .sys .given .1)) ∙ c .before .before .before .value-at .ensures
 
 abbrev at4 : tie.After-known-told3 → tie.After-known-told2
@@ -52,7 +52,7 @@ at4 c = c .before .before .before .before
 abbrev start4 : tie.After-known-told3 → tie.Start
 start4 c = start3 (at4 c)
 
-read4 : (c : tie.After-known-told3) → some (c .before .par .given .0 .0) ≡ Option·map heard (valueOrUnsent (fieldAt (start4 c .args .line .now) 3))
+read4 : (c : tie.After-known-told3) → some (c .before .par .given .0 .0) ≡ Option·map receivedValue (valueOrUnsent (fieldAt (start4 c .args .line .now) 3))
 read4 c = ap integerOf (sym (c .before .par .given .1)) ∙ c .before .before .before .value-at2 .ensures
 
 abbrev at5 : tie.After-known-told4 → tie.After-known-told3
@@ -61,7 +61,7 @@ at5 c = c .before .before .before .before
 abbrev start5 : tie.After-known-told4 → tie.Start
 start5 c = start4 (at5 c)
 
-read5 : (c : tie.After-known-told4) → some (c .before .par2 .given .0 .0) ≡ Option·map heard (valueOrUnsent (fieldAt (start5 c .args .line .now) 4))
+read5 : (c : tie.After-known-told4) → some (c .before .par2 .given .0 .0) ≡ Option·map receivedValue (valueOrUnsent (fieldAt (start5 c .args .line .now) 4))
 read5 c = ap integerOf (sym (c .before .par2 .given .1)) ∙ c .before .before .before .value-at3 .ensures
 
 starts-requires : tie.Need-starts-requires

@@ -3,7 +3,7 @@
 use mathlib.Core.Path.{refl, sym, _∙_}
 use borrow.Author.Needs.{needs}
 use Rattle.sheet.specs.Rows.{valueOrUnsent}
-use Rattle.sheet.specs.laws.Reading.{heard-sent}
+use Rattle.sheet.specs.laws.Reading.{received-sent}
 use Rattle.sheet.proofs.rows.value_at.Statement.{statement}
 use Rattle.sheet.proofs.rows.value_at.Tie as tie
 
@@ -19,7 +19,7 @@ integer-at-requires c κs = search needs
 
 returns-2 : tie.Need-returns-2
 unfolding valueOrUnsent
-returns-2 c = rw (sym (c .before .before .dash-at .ensures) ∙ c .before .if1 .left) (c .integer-at .ensures ∙ heard-sent _)
+returns-2 c = rw (sym (c .before .before .dash-at .ensures) ∙ c .before .if1 .left) (c .integer-at .ensures ∙ received-sent _)
 
 pub value-at-spec : {M : Type 1} → statement M
 value-at-spec = tie.close (tie.spec dash-at-requires returns integer-at-requires returns-2)

@@ -16,7 +16,7 @@ use Rattle.lists.specs.laws.Stores.{Filled, filled-none, filled-more, filled-al
 use Rattle.sheet.specs.laws.Pieces.{Begins, begins-first, begins-next, ends-inside, ends-after, ends-before, piece-is}
 use Rattle.sheet.specs.Sheet.{messageAt}
 use Rattle.sheet.specs.Sheet.{messageValues}
-use Rattle.sheet.specs.laws.Receiving.{message-said}
+use Rattle.sheet.specs.laws.Receiving.{message-read}
 use Rattle.sheet.proofs.values.read_messages.Statement.{statement}
 use Rattle.sheet.proofs.values.read_messages.Tie as tie
 
@@ -111,7 +111,7 @@ loop-again c =
     let h : SFits w32 (m .par2) = let t = put .before .struct-told3 .given in search needs in
     let more : 3 * (loop .k + 1) ≡ 3 * loop .k + 3 = omega arith in
     let b = loop .inv .3 in
-    let is = message-said _ _ (loop .k) _ m (start read .pre .0) (omega (arith, loop .inv .1, read .before .loop-test .taken)) (piece-is 10 b (read .next-at2 .ensures)) (row .message .ensures) in (
+    let is = message-read _ _ (loop .k) _ m (start read .pre .0) (omega (arith, loop .inv .1, read .before .loop-test .taken)) (piece-is 10 b (read .next-at2 .ensures)) (row .message .ensures) in (
       omega arith,
       simp length-set (loop .inv .1),
       put .put3 .kept .0 ∙ loop .inv .2,

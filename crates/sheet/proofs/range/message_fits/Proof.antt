@@ -1,11 +1,11 @@
--- `loud::message_fits` is the test of a row of three values.
+-- `range::message_fits` is the test of a row of three values.
 -- Assumes nothing.
 use mathlib.Core.Path.{sym, _∙_}
 use borrow.Author.Tests.{not-true, not-false}
 use borrow.Author.Needs.{needs}
-use Rattle.sheet.specs.laws.Loud.{pair-outside, pair-inside, one-fits}
-use Rattle.sheet.proofs.loud.message_fits.Statement.{statement}
-use Rattle.sheet.proofs.loud.message_fits.Tie as tie
+use Rattle.sheet.specs.laws.Range.{pair-outside, pair-inside, one-fits}
+use Rattle.sheet.proofs.range.message_fits.Statement.{statement}
+use Rattle.sheet.proofs.range.message_fits.Tie as tie
 
 add-both-small : tie.Need-add-both-small
 add-both-small c = search needs

@@ -1,11 +1,11 @@
--- `loud::row_fits` is the test of a row's values, by the kind of row.
+-- `range::row_fits` is the test of a row's values, by the kind of row.
 -- Assumes nothing.
 use mathlib.Core.Path.{sym, ap, _∙_}
 use borrow.Author.Needs.{needs}
 use Rattle.trellis.specs.Limits.{channelFits}
-use Rattle.sheet.specs.laws.Loud.{message-row, tail-row}
-use Rattle.sheet.proofs.loud.row_fits.Statement.{statement}
-use Rattle.sheet.proofs.loud.row_fits.Tie as tie
+use Rattle.sheet.specs.laws.Range.{message-row, tail-row}
+use Rattle.sheet.proofs.range.row_fits.Statement.{statement}
+use Rattle.sheet.proofs.range.row_fits.Tie as tie
 
 mul-message-fits : tie.Need-mul-message-fits
 mul-message-fits c = search needs

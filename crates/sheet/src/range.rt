@@ -7,7 +7,7 @@ ghost use lib.ListN.{length, getD};
 ghost use Rattle.integers.specs.Integers.{inside};
 ghost use Rattle.lists.specs.Lists.{firstFailing};
 ghost use Rattle.trellis.specs.Limits.{channelFits};
-ghost use Rattle.sheet.specs.laws.Loud.{valueAt, messageFrom, tailFrom, rowsIn};
+ghost use Rattle.sheet.specs.laws.Range.{valueAt, messageFrom, tailFrom, rowsIn};
 use crate::values::is_small;
 
 // The value at a place is within the limit.
@@ -66,7 +66,7 @@ fn row_fits(values: &[i32], k: usize, i: usize) -> bool
 }
 
 // The line of the first row with a value outside the limit, the header being line 1; the line after the last where there is none.
-pub fn loud_line(values: &[i32], k: usize) -> usize
+pub fn value_line(values: &[i32], k: usize) -> usize
     requires { ⌜ length (now values) ≡ 3 * k + 8 ⌝ }
     requires { ⌜ k ≤ 512 ⌝ }
     ensures { λ r. ⌜ r ≡ firstFailing channelFits (rowsIn k (now (values .entry))) + 2 ⌝ }

@@ -26,7 +26,7 @@ use Rattle.demands.specs.Coded.{IsCoderPath}
 use Rattle.demands.specs.laws.Outputs.{wordAt, first-output, place-1, place-2, tail-place-1, tail-place-2}
 
 -- r has a value for every place of a frame for the message, and none has the wrong sign
-pub record IsHeard (f : Frame) (message : List ℕ) (r : List ℤ) : Type 0 where
+pub record HasRightPlaces (f : Frame) (message : List ℕ) (r : List ℤ) : Type 0 where
   pub framed : Framed f
   pub first : TrellisPath
   pub second : TrellisPath
@@ -63,55 +63,55 @@ sections-agree f end path channel systematic parity tail = record {
         pos 0 ≤ℤ signed (output (wordAt (f .table) path k) l) (getD channel (2 * k + l) (pos 0))
     after k j l e h g = let place : 2 * k + l ≡ 2 * f .bits + (2 * j + l) = omega arith in rw (place, e) (tail j l h g)
 
-module _ {f : Frame} {message : List ℕ} {r : List ℤ} (heard : IsHeard f message r) where
+module _ {f : Frame} {message : List ℕ} {r : List ℤ} (correct : HasRightPlaces f message r) where
   abbrev p : TrellisPath
-  p = heard .first
+  p = correct .first
 
   abbrev q : TrellisPath
-  q = heard .second
+  q = correct .second
 
   first-path : IsPath (f .table) (f .first) (sections1 f) p
   unfolding sections1 tail1
-  first-path = heard .first-coder .is-path
+  first-path = correct .first-coder .is-path
 
   second-path : IsPath (f .table) (f .second) (sections2 f) q
   unfolding sections2 tail2
-  second-path = heard .second-coder .is-path
+  second-path = correct .second-coder .is-path
 
   -- the values of a position, and those of section j of a tail
   position-1 : (k l : ℕ) → k < f .bits → l < 2 → pos 0 ≤ℤ signed (output (wordAt (f .table) p k) l) (getD r (3 * k + l) (pos 0))
-  position-1 k l h g = rw (place-1 f (heard .framed) p q first-path second-path k l h g) at (heard .signs (3 * k + l))
+  position-1 k l h g = rw (place-1 f (correct .framed) p q first-path second-path k l h g) at (correct .signs (3 * k + l))
 
   systematic-1 : (k : ℕ) → k < f .bits → pos 0 ≤ℤ signed (output (wordAt (f .table) p k) 0) (getD r (3 * k) (pos 0))
   systematic-1 k h = rw (add-zero (3 * k)) at (position-1 k 0 h (omega arith))
 
   tail-1 : (j l : ℕ) → j < tail1 f → l < 2 →
       pos 0 ≤ℤ signed (output (wordAt (f .table) p (f .bits + j)) l) (getD r (3 * f .bits + (2 * j + l)) (pos 0))
-  tail-1 j l h g = rw (tail-place-1 f (heard .framed) p q first-path second-path j l h g) at (heard .signs (3 * f .bits + (2 * j + l)))
+  tail-1 j l h g = rw (tail-place-1 f (correct .framed) p q first-path second-path j l h g) at (correct .signs (3 * f .bits + (2 * j + l)))
 
   parity-2 : (k : ℕ) → k < f .bits → pos 0 ≤ℤ signed (output (wordAt (f .table) q k) 1) (getD r (3 * k + 2) (pos 0))
-  parity-2 k h = rw (place-2 f (heard .framed) p q first-path second-path k h) at (heard .signs (3 * k + 2))
+  parity-2 k h = rw (place-2 f (correct .framed) p q first-path second-path k h) at (correct .signs (3 * k + 2))
 
   tail-2 : (j l : ℕ) → j < tail2 f → l < 2 →
       pos 0 ≤ℤ signed (output (wordAt (f .table) q (f .bits + j)) l) (getD r (3 * f .bits + 2 * tail1 f + (2 * j + l)) (pos 0))
   tail-2 j l h g =
-      rw (tail-place-2 f (heard .framed) p q first-path second-path j l h g) at (heard .signs (3 * f .bits + 2 * tail1 f + (2 * j + l)))
+      rw (tail-place-2 f (correct .framed) p q first-path second-path j l h g) at (correct .signs (3 * f .bits + 2 * tail1 f + (2 * j + l)))
 
   -- the second coder's input k is message bit pattern(k), which is the first coder's input there
   same-input : (k i : ℕ) → k < f .bits → getD (f .pattern) k 0 ≡ i → i < f .bits →
       output (wordAt (f .table) q k) 0 ≡ output (wordAt (f .table) p i) 0
   unfolding sections1 sections2 tail1 tail2
   same-input k i h e below =
-      first-output f (heard .framed) q second-path k (omega arith)
-      ∙ input-at (heard .second-coder) k h
-      ∙ interleave-at 0 (f .bits) (f .pattern) (checked f (heard .framed) .permutes) message k h
+      first-output f (correct .framed) q second-path k (omega arith)
+      ∙ input-at (correct .second-coder) k h
+      ∙ interleave-at 0 (f .bits) (f .pattern) (checked f (correct .framed) .permutes) message k h
       ∙ ap (λ (j : ℕ). getD message j 0) e
-      ∙ sym (input-at (heard .first-coder) i below)
-      ∙ sym (first-output f (heard .framed) p first-path i (omega arith))
+      ∙ sym (input-at (correct .first-coder) i below)
+      ∙ sym (first-output f (correct .framed) p first-path i (omega arith))
 
   systematic-2 : (k : ℕ) → k < f .bits → pos 0 ≤ℤ signed (output (wordAt (f .table) q k) 0) (getD r (3 * getD (f .pattern) k 0) (pos 0))
   systematic-2 k h =
-      let below = checked f (heard .framed) .permutes .below k h in
+      let below = checked f (correct .framed) .permutes .below k h in
       rw (same-input k (getD (f .pattern) k 0) h refl below) (systematic-1 (getD (f .pattern) k 0) below)
 
   pub first-agrees : ChannelAgrees f (f .first) p (channel1 f r)

@@ -1,4 +1,4 @@
--- `loud::loud_line` meets its contract. The invariant: the rows before i are within the limit.
+-- `range::value_line` meets its contract. The invariant: the rows before i are within the limit.
 -- Assumes nothing.
 use mathlib.Core.Path.{_≡_, sym, ap, _∙_}
 use mathlib.Core.Bool.{true}
@@ -11,9 +11,9 @@ use borrow.Author.Tests.{not-true, not-false}
 use borrow.Author.Needs.{needs}
 use Rattle.lists.specs.laws.First.{first-is, first-none}
 use Rattle.trellis.specs.Limits.{channelFits}
-use Rattle.sheet.specs.laws.Loud.{rowsIn, rows-long}
-use Rattle.sheet.proofs.loud.loud_line.Statement.{statement}
-use Rattle.sheet.proofs.loud.loud_line.Tie as tie
+use Rattle.sheet.specs.laws.Range.{rowsIn, rows-long}
+use Rattle.sheet.proofs.range.value_line.Statement.{statement}
+use Rattle.sheet.proofs.range.value_line.Tie as tie
 
 abbrev Inv-loop : tie.InvT-loop
 Inv-loop values k i₀ i = (i ≤ k + 2) × ((j : ℕ) → j < i → channelFits (getD (rowsIn k values) j []) ≡ true)
@@ -68,8 +68,8 @@ returns-2 c =
     let none = first-none channelFits [] (rowsIn (start .args .k) (start .args .values .now)) (λ j h. loop .inv .1 j (omega (arith, long, c .loop-test .left))) in
     (omega (arith, long, none, loop .inv .0, c .loop-test .left), omega (arith, loop .inv .0, start .pre .1))
 
-pub loud-line-spec : {M : Type 1} → statement M
-loud-line-spec =
+pub value-line-spec : {M : Type 1} → statement M
+value-line-spec =
     tie.close
     (tie.spec
     Inv-loop

@@ -1,10 +1,10 @@
--- `loud::both_small` is the test of two values in turn.
+-- `range::both_small` is the test of two values in turn.
 -- Assumes nothing.
 use mathlib.Core.Path.{sym, _∙_}
 use borrow.Author.Tests.{not-true, not-false}
 use borrow.Author.Needs.{needs}
-use Rattle.sheet.proofs.loud.both_small.Statement.{statement}
-use Rattle.sheet.proofs.loud.both_small.Tie as tie
+use Rattle.sheet.proofs.range.both_small.Statement.{statement}
+use Rattle.sheet.proofs.range.both_small.Tie as tie
 
 small-at-requires : tie.Need-small-at-requires
 small-at-requires c κs = search needs

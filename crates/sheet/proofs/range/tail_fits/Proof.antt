@@ -1,11 +1,11 @@
--- `loud::tail_fits` is the test of a row of four values.
+-- `range::tail_fits` is the test of a row of four values.
 -- Assumes nothing.
 use mathlib.Core.Path.{sym, _∙_}
 use borrow.Author.Tests.{not-true, not-false}
 use borrow.Author.Needs.{needs}
-use Rattle.sheet.specs.laws.Loud.{pair-outside, pair-inside, pair-fits}
-use Rattle.sheet.proofs.loud.tail_fits.Statement.{statement}
-use Rattle.sheet.proofs.loud.tail_fits.Tie as tie
+use Rattle.sheet.specs.laws.Range.{pair-outside, pair-inside, pair-fits}
+use Rattle.sheet.proofs.range.tail_fits.Statement.{statement}
+use Rattle.sheet.proofs.range.tail_fits.Tie as tie
 
 add-both-small : tie.Need-add-both-small
 add-both-small c = search needs

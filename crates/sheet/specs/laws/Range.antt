@@ -21,7 +21,7 @@ use Rattle.refusal.specs.declared.Reply.the-variants.{Done, Refused}
 use Rattle.refusal.specs.Refusals.{check}
 use Rattle.refusal.specs.laws.Checks.{check-is-done, fails}
 use Rattle.trellis.specs.Limits.{channelFits}
-use Rattle.sheet.specs.Sheet.{messageBits, tailAt, messageValues, tailValues, valuesOf, rowValues, loudLine}
+use Rattle.sheet.specs.Sheet.{messageBits, tailAt, messageValues, tailValues, valuesOf, rowValues, valueLine}
 
 -- ---- rows by the places of their values
 
@@ -60,8 +60,8 @@ module _ (a b : ℤ) where
 unfoldable pub rowsIn : ℕ → List ℤ → List (List ℤ)
 rowsIn k values = listed (λ i. messageFrom values (3 * i)) k ++ listed (λ j. tailFrom values (3 * k + 2 * j)) 2
 
-unfoldable pub loudIn : ℕ → List ℤ → Reply
-loudIn k values = check (channelFits values) (ValueInLine (firstFailing channelFits (rowsIn k values) + 2))
+unfoldable pub valuesReply : ℕ → List ℤ → Reply
+valuesReply k values = check (channelFits values) (ValueInLine (firstFailing channelFits (rowsIn k values) + 2))
 
 module _ (k : ℕ) (values : List ℤ) where
   pub rows-long : length (rowsIn k values) ≡ k + 2
@@ -83,13 +83,13 @@ module _ (k : ℕ) (values : List ℤ) where
       ∙ getD-append-add messages _ (i - k) []
       ∙ listed-at _ 2 (i - k) [] (omega arith)
 
-  pub loud-refused : channelFits values ≡ false → Refused (ValueInLine (firstFailing channelFits (rowsIn k values) + 2)) ≡ loudIn k values
-  unfolding loudIn
-  loud-refused e = fails e
+  pub values-refused : channelFits values ≡ false → Refused (ValueInLine (firstFailing channelFits (rowsIn k values) + 2)) ≡ valuesReply k values
+  unfolding valuesReply
+  values-refused e = fails e
 
-  pub loud-done : channelFits values ≡ true → loudIn k values ≡ Done
-  unfolding loudIn
-  loud-done e = check-is-done _ _ .1 e
+  pub values-done : channelFits values ≡ true → valuesReply k values ≡ Done
+  unfolding valuesReply
+  values-done e = check-is-done _ _ .1 e
 
 -- ---- they are the sheet's
 
@@ -150,9 +150,9 @@ module _ (sheet : List ℕ) where
   unfolding rowsIn rowValues
   rows-are = ap₂ _++_ (listed-ext _ _ k message-is) (listed-ext _ _ 2 tail-is)
 
-  pub loud-is : loudIn k (valuesOf sheet) ≡ check (channelFits (valuesOf sheet)) (ValueInLine (loudLine sheet))
-  unfolding loudIn loudLine
-  loud-is = ap (λ (rows : List (List ℤ)). check (channelFits (valuesOf sheet)) (ValueInLine (firstFailing channelFits rows + 2))) rows-are
+  pub values-reply-is : valuesReply k (valuesOf sheet) ≡ check (channelFits (valuesOf sheet)) (ValueInLine (valueLine sheet))
+  unfolding valuesReply valueLine
+  values-reply-is = ap (λ (rows : List (List ℤ)). check (channelFits (valuesOf sheet)) (ValueInLine (firstFailing channelFits rows + 2))) rows-are
 
   -- ---- where a value is outside its limits, a row has one
 
@@ -199,8 +199,8 @@ module _ (sheet : List ℕ) where
         (joined-small second-tail 2 (λ j h. parted _ _ _ _ (tail-fits j h) .1)))
 
   -- so the line told is that of a row with such a value, and no row before it has one
-  pub loud-first : channelFits (valuesOf sheet) ≡ false → IsFirst channelFits [] (rowValues sheet) (firstFailing channelFits (rowValues sheet))
-  loud-first e = first-fails channelFits [] (rowValues sheet) (go (every channelFits (rowValues sheet)) refl)
+  pub value-line-first : channelFits (valuesOf sheet) ≡ false → IsFirst channelFits [] (rowValues sheet) (firstFailing channelFits (rowValues sheet))
+  value-line-first e = first-fails channelFits [] (rowValues sheet) (go (every channelFits (rowValues sheet)) refl)
     where
       go : (t : Bool) → every channelFits (rowValues sheet) ≡ t → every channelFits (rowValues sheet) ≡ false
       go true fit = absurd (false≢true (sym e ∙ values-fit fit))

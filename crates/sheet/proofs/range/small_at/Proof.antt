@@ -1,4 +1,4 @@
--- `loud::small_at` is the test of one value.
+-- `range::small_at` is the test of one value.
 -- Assumes nothing.
 use mathlib.Core.Path.{ap, _∙_}
 use lib.IntN.{ℤ, pos}
@@ -8,8 +8,8 @@ use mir.Val.{SFits}
 use mir.Facts.{toZ-ofZ}
 use borrow.Author.Needs.{needs}
 use Rattle.integers.specs.Integers.{inside}
-use Rattle.sheet.proofs.loud.small_at.Statement.{statement}
-use Rattle.sheet.proofs.loud.small_at.Tie as tie
+use Rattle.sheet.proofs.range.small_at.Statement.{statement}
+use Rattle.sheet.proofs.range.small_at.Tie as tie
 
 mul-is-small : tie.Need-mul-is-small
 mul-is-small c = search needs
