@@ -30,7 +30,8 @@ use Rattle.decoder.specs.Decoder
 use Rattle.text.specs.Text
 use Rattle.text.specs.Text.{bytes}
 use Rattle.text.specs.Decimal
-use Rattle.sheet.specs.Rows
+use Rattle.rows.specs.Rows
+use Rattle.rows.specs.Lines
 use Rattle.sheet.specs.Sheet
 
 -- what is given, and the answer that document 01 has for it
@@ -62,7 +63,8 @@ unfolding
     Interleaver.permutes Interleaver.place Interleaver.interleave Interleaver.deinterleave
     Decimal.numeral Decimal.natural Decimal.opposite Decimal.integer Decimal.digitsIn Decimal.digits Decimal.decimal
     Rows.fieldAt Rows.dash Rows.valueOrUnsent Rows.starts Rows.messageRow Rows.tailRow
-    Sheet.linesOf Sheet.lastPiece Sheet.rowCount Sheet.messageBits Sheet.lineFits Sheet.faultFrom Sheet.firstFault Sheet.faultLine Sheet.sizeFits Sheet.textChecks Sheet.messageAt Sheet.tailAt Sheet.valuesOf Sheet.sheetCallOf Sheet.lentFor Sheet.rowValues Sheet.valueLine Sheet.sheetChecks Sheet.refusalText Sheet.resultLine Sheet.resultText Sheet.printed Sheet.answer
+    Lines.linesOf Lines.lastPiece Lines.rowCount Lines.messageBits Lines.lineFits Lines.faultFrom Lines.firstFault Lines.faultLine Lines.sizeFits Lines.textChecks
+    Sheet.messageAt Sheet.tailAt Sheet.valuesOf Sheet.sheetCallOf Sheet.lentFor Sheet.rowValues Sheet.valueLine Sheet.sheetChecks Sheet.refusalText Sheet.resultLine Sheet.resultText Sheet.printed Sheet.answer
     Text.bytes Text.onFirst Text.cut Text.same
 computed (lonePass c l r) = lonePass c l (Lone.decode c l)
 computed (sheet s a) = sheet s (Sheet.answer s)

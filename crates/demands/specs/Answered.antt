@@ -19,7 +19,8 @@ use Rattle.refusal.specs.Replied.{allHold, IsFirstToFail}
 use Rattle.trellis.specs.Limits.{channelFits}
 use Rattle.frame.specs.Interleaver.{permutes}
 use Rattle.decoder.specs.Decoder.{DecodeResult}
-use Rattle.sheet.specs.Sheet.{linesOf, lastPiece, messageBits, lineFits, firstFault, faultLine, sizeFits, valuesOf, sheetCallOf, lentFor, rowValues, valueLine, resultLine}
+use Rattle.rows.specs.Lines.{linesOf, lastPiece, messageBits, lineFits, firstFault, faultLine, sizeFits}
+use Rattle.sheet.specs.Sheet.{valuesOf, sheetCallOf, lentFor, rowValues, valueLine, resultLine}
 use Rattle.demands.specs.Decoding.{IsDecoding}
 
 -- ---- refused

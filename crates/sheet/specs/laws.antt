@@ -1,6 +1,3 @@
-pub mod Pieces
-pub mod Reading
-pub mod Fitting
 pub mod Receiving
 pub mod Range
 pub mod Printing

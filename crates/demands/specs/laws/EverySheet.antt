@@ -20,7 +20,8 @@ use Rattle.refusal.specs.laws.InTurn.{first-is-reply, done-exactly, both-done, 
 use Rattle.trellis.specs.Limits.{channelFits}
 use Rattle.frame.specs.Interleaver.{permutes}
 use Rattle.decoder.specs.Decoder.{DecodeResult, decodeLentChecks, decodePathChecks, decodeChecks, decodeSettled, decode}
-use Rattle.sheet.specs.Sheet.{messageBits, messageAt, valuesOf, rowValues, valueLine, firstFault, faultLine, sizeFits, textChecks, sheetChecks, sheetCallOf, lentFor, refusalText, resultText, printed, answer}
+use Rattle.rows.specs.Lines.{messageBits, firstFault, faultLine, sizeFits, textChecks}
+use Rattle.sheet.specs.Sheet.{messageAt, valuesOf, rowValues, valueLine, sheetChecks, sheetCallOf, lentFor, refusalText, resultText, printed, answer}
 use Rattle.sheet.specs.laws.Range.{value-line-first, rows-count}
 use Rattle.sheet.specs.laws.Answers.{sheet-reply, frame-reply, result-long, result-feeds}
 use Rattle.demands.specs.Answered.{sheetRules, IsFaultyLine, IsFaultless, IsValueLine, IsResult, IsAnswer}

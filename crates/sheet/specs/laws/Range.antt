@@ -21,7 +21,8 @@ use Rattle.refusal.specs.declared.Reply.the-variants.{Done, Refused}
 use Rattle.refusal.specs.Refusals.{check}
 use Rattle.refusal.specs.laws.Checks.{check-is-done, fails}
 use Rattle.trellis.specs.Limits.{channelFits}
-use Rattle.sheet.specs.Sheet.{messageBits, tailAt, messageValues, tailValues, valuesOf, rowValues, valueLine}
+use Rattle.rows.specs.Lines.{messageBits}
+use Rattle.sheet.specs.Sheet.{tailAt, messageValues, tailValues, valuesOf, rowValues, valueLine}
 
 -- ---- rows by the places of their values
 

@@ -12,20 +12,17 @@ use lib.ListN.{length, getD, take, set, length-set}
 use lib.Seq.{take-suc-set}
 use Rattle.lists.specs.Lists.{joined}
 use Rattle.text.specs.Text.{cut}
-use Rattle.sheet.specs.declared.Message.{Message}
-use Rattle.sheet.specs.declared.Tail.{Tail}
-use Rattle.sheet.specs.Rows.{MessageRow, TailRow, messageRow, tailRow}
-use Rattle.sheet.specs.Sheet.{linesOf, messageBits, messageAt, tailAt, messageValues, valuesOf}
-use Rattle.sheet.specs.laws.Pieces.{front-at}
-use Rattle.sheet.specs.laws.Reading.{receivedValue, messageShown, tailShown}
+use Rattle.rows.specs.declared.Message.{Message}
+use Rattle.rows.specs.declared.Tail.{Tail}
+use Rattle.rows.specs.Rows.{MessageRow, TailRow, messageRow, tailRow}
+use Rattle.rows.specs.Lines.{linesOf, messageBits}
+use Rattle.rows.specs.Lent.{receivedValue, messageShown, tailShown, tailIn}
+use Rattle.rows.specs.laws.Pieces.{front-at}
+use Rattle.sheet.specs.Sheet.{messageAt, tailAt, messageValues, valuesOf}
 
 -- the values of both tails, from the two tail rows
 abbrev pub bothTails : Tail → Tail → List ℤ
 bothTails a b = a .sys ∷ a .par ∷ b .sys ∷ b .par ∷ a .sys2 ∷ a .par2 ∷ b .sys2 ∷ b .par2 ∷ []
-
--- row k as a tail row
-unfoldable pub tailIn : List ℕ → ℕ → Tail
-tailIn sheet k = tailShown (tailRow k (getD (cut 10 sheet) (k + 1) []))
 
 -- the values of every place, K being k
 unfoldable pub valuesTo : List ℕ → ℕ → List ℤ
