@@ -44,7 +44,7 @@ value-line-requires c κs = let pre = start (c .before .before) .pre in (pre .1 
 
 put-refusal-requires : tie.Need-put-refusal-requires
 unfolding told
-put-refusal-requires c κs = (start (c .before .before .before .before) .pre .0, c .before .value-line .ensures .1)
+put-refusal-requires c κs = (start (c .before .before .before .before) .pre .0, omega (arith, c .before .value-line .ensures .1))
 
 same-length : tie.Need-same-length
 same-length c = search needs
