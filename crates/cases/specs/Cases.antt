@@ -26,6 +26,7 @@ use Rattle.frame.specs.Interleaver
 use Rattle.frame.specs.Frame
 use Rattle.frame.specs.Frame.{Frame}
 use Rattle.coder.specs.Coder
+use Rattle.soft.specs.Soft
 use Rattle.decoder.specs.Decoder
 use Rattle.text.specs.Text
 use Rattle.text.specs.Text.{bytes}
@@ -57,7 +58,7 @@ unfolding
     Table.nextState Table.word Table.output Table.systematic Table.shaped Table.branched Table.tableChecks
     Lone.listsFit Lone.lentChecks Lone.pathChecks Lone.checks Lone.settled Lone.decode
     Coder.tailFrom Coder.ringStart Coder.codedPath Coder.parityAt Coder.sectionAt Coder.places Coder.sentFor Coder.encodeListsFit Coder.encodeLentChecks Coder.encodePathChecks Coder.encodeChecks Coder.encodeSettled Coder.encode
-    Decoder.handOver Decoder.decided Decoder.channel1Under Decoder.channel1 Decoder.channel2Under Decoder.channel2 Decoder.pass Decoder.handOn Decoder.handBack Decoder.handedOn Decoder.iteration Decoder.priorAfter Decoder.lastPass Decoder.decodeListsFit Decoder.decodeLentChecks Decoder.bothWalked Decoder.bothFree Decoder.decodePathChecks Decoder.decodeChecks Decoder.decodeSettled Decoder.decode
+    Soft.handOver Soft.decided Decoder.channel1Under Decoder.channel1 Decoder.channel2Under Decoder.channel2 Decoder.pass Decoder.handOn Decoder.handBack Decoder.handedOn Decoder.iteration Decoder.priorAfter Decoder.lastPass Decoder.decodeListsFit Decoder.decodeLentChecks Decoder.bothWalked Decoder.bothFree Decoder.decodePathChecks Decoder.decodeChecks Decoder.decodeSettled Decoder.decode
     Frame.tailOf Frame.tail1 Frame.tail2 Frame.sections1 Frame.sections2 Frame.longer Frame.sizesFit Frame.masksFit Frame.codes Frame.maskAt Frame.maskFlags Frame.onesTo Frame.lengthUnder Frame.frameLength Frame.flagsUnder Frame.flags Frame.puncture Frame.spread
     House.houseParity House.houseNext House.house
     Interleaver.permutes Interleaver.place Interleaver.interleave Interleaver.deinterleave

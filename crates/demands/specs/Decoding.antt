@@ -17,7 +17,8 @@ use Rattle.trellis.specs.Table.{Table}
 use Rattle.trellis.specs.Path.{Values, aprioriAt}
 use Rattle.trellis.specs.Outcome.{margin, intrinsic, extrinsic}
 use Rattle.frame.specs.Frame.{Frame, sectionsOf, flags, spread}
-use Rattle.decoder.specs.Decoder.{handOver, decided, channel1, channel2, DecodeCall, DecodeLent, DecodeResult}
+use Rattle.soft.specs.Soft.{handOver, decided}
+use Rattle.decoder.specs.Decoder.{channel1, channel2, DecodeCall, DecodeLent, DecodeResult}
 use Rattle.demands.specs.Meaning.{SomePath, IsEmptyClass, Means}
 
 -- ---- one pass

@@ -19,7 +19,8 @@ use Rattle.trellis.specs.Path.{aprioriAt}
 use Rattle.frame.specs.Interleaver.{place}
 use Rattle.frame.specs.laws.Interleaving.{Permutes}
 use Rattle.frame.specs.Frame.{Frame, sectionsOf}
-use Rattle.decoder.specs.Decoder.{handOver, decided, channel1, channel2, DecodeCall, DecodeLent, DecodeResult, decodeLentChecks, decode}
+use Rattle.soft.specs.Soft.{handOver, decided}
+use Rattle.decoder.specs.Decoder.{channel1, channel2, DecodeCall, DecodeLent, DecodeResult, decodeLentChecks, decode}
 use Rattle.decoder.specs.laws.Decodable.{Decodable, decodable}
 use Rattle.frame.specs.laws.Checked.{checked}
 use Rattle.demands.specs.Decoding.{Pass, marginAt, extrinsicAt, IsPass, patternAt, AreIterations, FrameListsWritten, FrameListsKept, BothPaths, EitherEmpty, IsDecoding}

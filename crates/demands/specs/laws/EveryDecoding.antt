@@ -22,7 +22,8 @@ use Rattle.trellis.specs.laws.Emptiness.{outcome-is-free}
 use Rattle.frame.specs.Interleaver.{deinterleave}
 use Rattle.frame.specs.laws.Interleaving.{Permutes, interleave-at, deinterleave-at, interleave-length, deinterleave-length}
 use Rattle.frame.specs.Frame.{Frame, sectionsOf, tailOf, flags, spread}
-use Rattle.decoder.specs.Decoder.{handOver, decided, channel1, channel2, Soft, pass, handOn, handBack, handedOn, iteration, priorAfter, lastPass, decodedPass}
+use Rattle.soft.specs.Soft.{handOver, decided}
+use Rattle.decoder.specs.Decoder.{channel1, channel2, Soft, pass, handOn, handBack, handedOn, iteration, priorAfter, lastPass, decodedPass}
 use Rattle.decoder.specs.laws.Decodable.{decodable}
 use Rattle.frame.specs.laws.Checked.{checked}
 use Rattle.decoder.specs.Decoder.{DecodeCall, DecodeLent, decodeLentChecks, decodeSettled, decode}

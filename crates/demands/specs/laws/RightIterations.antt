@@ -12,7 +12,8 @@ use Rattle.trellis.specs.Outcome.{forced}
 use Rattle.frame.specs.Interleaver.{interleave, deinterleave}
 use Rattle.frame.specs.laws.Interleaving.{Permutes, deinterleave-undoes}
 use Rattle.frame.specs.Frame.{Frame, sectionsOf, tail1, tail2}
-use Rattle.decoder.specs.Decoder.{decided, channel1, channel2, handOn, handBack, handedOn, iteration, priorAfter, lastPass, decodedPass}
+use Rattle.soft.specs.Soft.{decided}
+use Rattle.decoder.specs.Decoder.{channel1, channel2, handOn, handBack, handedOn, iteration, priorAfter, lastPass, decodedPass}
 use Rattle.frame.specs.laws.Checked.{checked}
 use Rattle.decoder.specs.laws.Channels.{channel2-systematic}
 use Rattle.demands.specs.laws.RightPlaces.{HasRightPlaces, first-agrees, second-agrees}
