@@ -6,6 +6,7 @@ use Prim.Native.Nat.{ℕ, zero, suc}
 use lib.Dec.{eqb}
 use lib.ListN.{length}
 use Rattle.trellis.specs.declared.End.{End}
+use Rattle.trellis.specs.declared.PassFormat.{PassFormat}
 use Rattle.trellis.specs.declared.End.the-variants.{Zero, Open, Ring}
 use Rattle.refusal.specs.declared.Refusal.the-variants.{Lists}
 use Rattle.refusal.specs.Refusals.{numberOf, placeOf, Check, _unless_, firstOf, after}
@@ -69,6 +70,10 @@ module _ {A : Type 0} where
 
   abbrev pub byEnds : ℕ → ℕ → A → (End → End → A) → A
   byEnds n m refused answer = byEnd n refused (λ first. byEnd m refused (answer first))
+
+-- what a pass is, from a call's numbers and its end
+abbrev pub passFormatOf : ℕ → ℕ → ℕ → End → PassFormat
+passFormatOf states outputs sections end = record { states = states; outputs = outputs; sections = sections; end = end }
 
 -- what a frame is, from a call's numbers and its two ends
 abbrev pub formatOf : ℕ → ℕ → End → End → ℕ → ℕ → FrameFormat

@@ -10,14 +10,14 @@ ghost use Rattle.house.specs.House.{house};
 ghost use Rattle.taps.specs.Build.{tapsBuilt, tapsCallOf, tapsLentOf};
 ghost use Rattle.polynomial.specs.Polynomial.{patternBuilt, patternCallOf};
 ghost use Rattle.siso.specs.Decode.{decode as loneDecoded};
-ghost use Rattle.siso.specs.Lent.{callOf as loneCallOf, lentOf as loneLentOf};
+ghost use Rattle.siso.specs.Lent.{loneCallOf, loneLentOf};
 ghost use Rattle.coder.specs.Coder.{encode as encoded};
 ghost use Rattle.coder.specs.Lent.{encodeCallOf};
 ghost use Rattle.decoder.specs.Decoder.{decode as decoded};
 ghost use Rattle.decoder.specs.Lent.{decodeCallOf, decodeLentOf};
 ghost use Rattle.sheet.specs.Sheet.{answer as answerTo, FitsPage};
 ghost use Rattle.hints.specs.Hints.{hint, hintOf};
-ghost use Rattle.capi.specs.Returned.{returned, indexed, byEnd, byEnds, formatOf, loneReturned, encodeReturned, decodeReturned};
+ghost use Rattle.capi.specs.Returned.{returned, indexed, byEnd, byEnds, passFormatOf, formatOf, loneReturned, encodeReturned, decodeReturned};
 ghost use Rattle.capi.specs.Returned.{tapsReturned, patternReturned, written};
 
 mod ends;
@@ -26,8 +26,9 @@ use ends::Ending;
 use ends::end_of;
 use refusal::Refusal;
 use refusal::Reply;
-use trellis::End;
+use turbo::End;
 use turbo::FrameFormat;
+use turbo::PassFormat;
 
 // A decoder's reply: its number, and the index beside it, which is always written.
 fn tell(reply: Reply, index: &mut u64) -> u32
@@ -63,20 +64,23 @@ pub extern "C" fn turbo_lone_decode(
         (indexed 2 0 (loneLentOf (now (marks .entry)) (now (margins .entry)) (now (extrinsics .entry)) (now (work .entry))))
         (λ e. loneReturned
         (loneDecoded
-        (loneCallOf states outputs (now (next .entry)) (now (words .entry)) e sections
+        (loneCallOf (passFormatOf states outputs sections e) (now (next .entry)) (now (words .entry))
         (now (channel .entry)) (now (apriori .entry)))
         (loneLentOf (now (marks .entry)) (now (margins .entry)) (now (extrinsics .entry)) (now (work .entry))))) ⌝ }
 {
     let Ending::Known(by) = end_of(end) else {
         return tell(Reply::Refused(Refusal::Shape), index);
     };
-    let reply = butterfly::decode(
-        states,
-        outputs,
+    let format = PassFormat {
+        states: states,
+        outputs: outputs,
+        sections: sections,
+        end: by,
+    };
+    let reply = turbo::lone_decode(
+        format,
         next,
         words,
-        by,
-        sections,
         channel,
         apriori,
         marks,

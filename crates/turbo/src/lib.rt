@@ -1,4 +1,5 @@
-// The turbo code under one name: the coder, the frame decoder, the house table, and tables and patterns by their polynomials.
+// The turbo code under one name: the coder, the frame decoder, the lone decoder, the house table, and tables and patterns by their polynomials.
+pub use butterfly::decode as lone_decode;
 pub use coder::encode;
 pub use decoder::decode;
 pub use frame::FrameFormat;
@@ -6,3 +7,5 @@ pub use house::house_next;
 pub use house::house_words;
 pub use polynomial::polynomial_pattern;
 pub use taps::taps_table;
+pub use trellis::End;
+pub use trellis::PassFormat;
