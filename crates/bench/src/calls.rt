@@ -52,16 +52,14 @@ pub struct Sent {
 // A frame of so many values over the house code.
 pub fn encode(f: FrameFormat, message: &[u8], pattern: &[u32], masks: &[u8], len: usize) -> Sent {
     let n = len % 33;
-    let next = turbo::house_next();
-    let words = turbo::house_words();
     let first = f.first;
     let second = f.second;
     let mut sent = [9u8; 32];
     let r = turbo::encode(
         f.states,
         f.outputs,
-        &next,
-        &words,
+        b"\x00\x01\x03\x02\x01\x00\x02\x03",
+        b"\x00\x03\x02\x01\x00\x03\x02\x01",
         first,
         second,
         f.bits,
@@ -94,8 +92,6 @@ pub fn decode(
 ) -> Decoded {
     let k = f.bits % 17;
     let w = (k + f.tail % 5 + 1) * 4;
-    let next = turbo::house_next();
-    let words = turbo::house_words();
     let first = f.first;
     let second = f.second;
     let mut bits = [9u8; 16];
@@ -105,8 +101,8 @@ pub fn decode(
     let r = turbo::decode(
         f.states,
         f.outputs,
-        &next,
-        &words,
+        b"\x00\x01\x03\x02\x01\x00\x02\x03",
+        b"\x00\x03\x02\x01\x00\x03\x02\x01",
         first,
         second,
         f.bits,

@@ -103,25 +103,25 @@ fn values(seed: u32, limit: u16) -> [i16; 48] {
     xs
 }
 
+// Whether the result lists say this of position k.
+fn says(a: Passed, k: usize, mark: u8, margin: i32, extrinsic: i32) -> bool {
+    let at = k % 4096;
+    a.marks[at] == mark && a.margins[at] == margin && a.extrinsics[at] == extrinsic
+}
+
 // What position k shows. Free: the margin is half the difference of the best metrics, and the extrinsic what is left of it without `told`.
 fn verdict(best: Best, a: Passed, k: usize, told: i32) -> usize {
-    let at = k % 16;
-    let one = best.has[at * 2 + 1];
-    let mark = a.marks[at];
-    let margin = a.margins[at];
-    let extrinsic = a.extrinsics[at];
-    if best.has[at * 2] != one {
-        return if mark == one && margin == 0 && extrinsic == 0 {
-            FORCED
-        } else {
-            WRONG
-        };
+    let at = k % 16 * 2;
+    let one = best.has[at + 1];
+    if best.has[at] != one {
+        return if says(a, k, one, 0, 0) { FORCED } else { WRONG };
     }
-    let gap = numbers::minus(best.metric[at * 2 + 1], best.metric[at * 2]);
-    if mark == 2
-        && numbers::sum(margin, margin) == gap
-        && extrinsic == numbers::minus(margin, told)
-    {
+    let margin = a.margins[k % 4096];
+    let gap = numbers::minus(best.metric[at + 1], best.metric[at]);
+    if numbers::sum(margin, margin) != gap {
+        return WRONG;
+    }
+    if says(a, k, 2, margin, numbers::minus(margin, told)) {
         FREE
     } else {
         WRONG

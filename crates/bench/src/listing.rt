@@ -32,20 +32,26 @@ pub fn with_value(metric: i32, is_there: bool, bit: usize, value: i16) -> i32 {
     metric
 }
 
+// A metric with the channel values of a section's outputs, which stand from an index on.
+fn with_outputs(metric: i32, channel: [i16; 48], from: usize, outputs: usize, word: usize) -> i32 {
+    let at = from % 45;
+    let m1 = with_value(metric, 0 < outputs, word % 2, channel[at]);
+    let m2 = with_value(m1, 1 < outputs, word / 2 % 2, channel[at + 1]);
+    let m3 = with_value(m2, 2 < outputs, word / 4 % 2, channel[at + 2]);
+    with_value(m3, 3 < outputs, word / 8 % 2, channel[at + 3])
+}
+
 // One section more.
 fn step(f: PassFormat, x: Lists, w: Walk, k: usize, bit: usize) -> Walk {
     let at = w.state % 16 * 2 + bit % 2;
-    let from = numbers::product(f.outputs, k) % 45;
     let state = x.next[at] as usize;
     let word = x.words[at] as usize;
     let m = with_value(w.metric, true, bit, x.apriori[k % 12]);
-    let m1 = with_value(m, 0 < f.outputs, word % 2, x.channel[from]);
-    let m2 = with_value(m1, 1 < f.outputs, word / 2 % 2, x.channel[from + 1]);
-    let m3 = with_value(m2, 2 < f.outputs, word / 4 % 2, x.channel[from + 2]);
-    let m4 = with_value(m3, 3 < f.outputs, word / 8 % 2, x.channel[from + 3]);
+    let channel = x.channel;
+    let from = numbers::product(f.outputs, k);
     Walk {
         state: state,
-        metric: m4,
+        metric: with_outputs(m, channel, from, f.outputs, word),
     }
 }
 

@@ -15,12 +15,6 @@ add-w-2 c = search needs
 mul-w : tie.Need-mul-w
 mul-w c = search needs
 
-house-next-requires : tie.Need-house-next-requires
-house-next-requires c κs = search needs
-
-house-words-requires : tie.Need-house-words-requires
-house-words-requires c κs = search needs
-
 slice-aggregate-decode : tie.Need-slice-aggregate-decode
 slice-aggregate-decode c = search needs
 
@@ -70,8 +64,6 @@ decode-spec =
     add-w
     add-w-2
     mul-w
-    house-next-requires
-    house-words-requires
     slice-aggregate-decode
     slice-aggregate-decode-2
     array-borrow-prefix-bits

@@ -6,12 +6,6 @@ use borrow.Author.Needs.{needs}
 use Rattle.bench.proofs.calls.encode.Statement.{statement}
 use Rattle.bench.proofs.calls.encode.Tie as tie
 
-house-next-requires : tie.Need-house-next-requires
-house-next-requires c κs = search needs
-
-house-words-requires : tie.Need-house-words-requires
-house-words-requires c κs = search needs
-
 slice-aggregate-encode : tie.Need-slice-aggregate-encode
 slice-aggregate-encode c = search needs
 
@@ -30,8 +24,8 @@ encode-requires c κs = search needs
 number-of-requires : tie.Need-number-of-requires
 number-of-requires c κs = search needs
 
-cast-t21 : tie.Need-cast-t21
-cast-t21 c = search needs
+cast-t20 : tie.Need-cast-t20
+cast-t20 c = search needs
 
 returns : tie.Need-returns
 returns c = search needs
@@ -40,13 +34,11 @@ pub encode-spec : {M : Type 1} → statement M
 encode-spec =
     tie.close
     (tie.spec
-    house-next-requires
-    house-words-requires
     slice-aggregate-encode
     slice-aggregate-encode-2
     array-borrow-prefix-sent
     slice-aggregate-encode-3
     encode-requires
     number-of-requires
-    cast-t21
+    cast-t20
     returns)
