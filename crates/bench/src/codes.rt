@@ -16,7 +16,11 @@ fn put_table(memory: usize, feedback: u32, parity: u32, len: usize, shown: usize
 fn put_pattern(bits: usize, f1: usize, f2: usize) {
     let p = calls::pattern(bits, f1, f2);
     let list = p.list;
-    numbers::put_numbers(&list, 5);
+    numbers::put((list[0] % 65536) as usize);
+    numbers::put((list[1] % 65536) as usize);
+    numbers::put((list[2] % 65536) as usize);
+    numbers::put((list[3] % 65536) as usize);
+    numbers::put((list[4] % 65536) as usize);
     numbers::end(p.number);
 }
 

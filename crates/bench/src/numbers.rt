@@ -53,10 +53,6 @@ fn word(xs: &[i32], i: usize) -> i32 {
     if i < xs.len() { xs[i] } else { 0 }
 }
 
-fn number(xs: &[u32], i: usize) -> usize {
-    if i < xs.len() { xs[i] as usize } else { 0 }
-}
-
 // A decimal number and a space after it.
 pub fn put(n: usize) {
     io::print_decimal(1, n as u64);
@@ -74,14 +70,6 @@ pub fn put_bytes(xs: &[u8], n: usize) {
     let mut i: usize = 0;
     while i < n {
         put(byte(xs, i) as usize);
-        i += 1;
-    }
-}
-
-pub fn put_numbers(xs: &[u32], n: usize) {
-    let mut i: usize = 0;
-    while i < n {
-        put(number(xs, i));
         i += 1;
     }
 }
