@@ -15,18 +15,14 @@ pub struct Passed {
 pub fn pass(f: PassFormat, next: &[u8], words: &[u8], channel: &[i16], apriori: &[i16]) -> Passed {
     let n = f.sections % 4097;
     let w = numbers::product(n + 1, f.states) % 16389;
-    let end = f.end;
     let mut marks = [9u8; 4096];
     let mut margins = [0i32; 4096];
     let mut extrinsics = [0i32; 4096];
     let mut work = [0i32; 16388];
     let r = butterfly::decode(
-        f.states,
-        f.outputs,
+        f,
         next,
         words,
-        end,
-        f.sections,
         channel,
         apriori,
         &mut marks[..n],
@@ -52,18 +48,11 @@ pub struct Sent {
 // A frame of so many values over the house code.
 pub fn encode(f: FrameFormat, message: &[u8], pattern: &[u32], masks: &[u8], len: usize) -> Sent {
     let n = len % 33;
-    let first = f.first;
-    let second = f.second;
     let mut sent = [9u8; 32];
     let r = turbo::encode(
-        f.states,
-        f.outputs,
+        f,
         b"\x00\x01\x03\x02\x01\x00\x02\x03",
         b"\x00\x03\x02\x01\x00\x03\x02\x01",
-        first,
-        second,
-        f.bits,
-        f.tail,
         message,
         pattern,
         masks,
@@ -92,21 +81,14 @@ pub fn decode(
 ) -> Decoded {
     let k = f.bits % 17;
     let w = (k + f.tail % 5 + 1) * 4;
-    let first = f.first;
-    let second = f.second;
     let mut bits = [9u8; 16];
     let mut margins = [0i32; 16];
     let mut extrinsics = [0i32; 16];
     let mut work = [0i32; 84];
     let r = turbo::decode(
-        f.states,
-        f.outputs,
+        f,
         b"\x00\x01\x03\x02\x01\x00\x02\x03",
         b"\x00\x03\x02\x01\x00\x03\x02\x01",
-        first,
-        second,
-        f.bits,
-        f.tail,
         pattern,
         masks,
         received,

@@ -61,7 +61,7 @@ fn put_table_2() {
 pub fn run() {
     io::write_all(
         1,
-        b"number and index of the first bad value: channel 1023 1024 -1023 -1024 at 5; a-priori 8191 8192 -8191 -8192 at 2; 1024 at 0 and 7; 1024 at 6, 8192 at 0\n",
+        b"number and index of the first bad value: channel 1023 1024 -1023 -1024 at 5; a-priori 8191 8192 -8191 -8192 at 2; 1024 at 0, 7, and 6 beside 8192\n",
     );
     put_values(5, 1023, 2, 0);
     put_values(5, 1024, 2, 0);

@@ -14,7 +14,7 @@ use lib.Seq.{getD-set-same, getD-set-other}
 use borrow.Author.Count.{below-more}
 use Rattle.trellis.specs.Outcome.{larger}
 use Rattle.trellis.specs.laws.Over.{over, over-suc}
-use Rattle.siso.specs.laws.Held.{held}
+use Rattle.metrics.specs.Words.{held}
 
 -- two entries at different places
 module _ (xs : List ℤ) (a b : ℕ) (y z : ℤ) where

@@ -20,7 +20,8 @@ use Rattle.trellis.specs.laws.MaxPlus.{plus}
 use Rattle.trellis.specs.laws.Over.{over, over-ext}
 use Rattle.trellis.specs.laws.Sweeps.{Row, Closed, boundary, arriving, advance, departing, retreat, passing}
 use Rattle.trellis.specs.laws.Sweeps.{forward, forward-start, forwardStep, forward-step, backward, backward-end, backwardStep, backward-step, through, meet}
-use Rattle.siso.specs.laws.Held.{row, rowAt, Saved}
+use Rattle.metrics.specs.Words.{row, rowAt}
+use Rattle.siso.specs.laws.Held.{Saved}
 use Rattle.siso.specs.laws.Pass.{Forward}
 use Rattle.siso.specs.laws.Passed.{table-limits, few-sections, values-bounded}
 use Rattle.siso.specs.laws.Steps.{Agree}

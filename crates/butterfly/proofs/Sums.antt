@@ -18,8 +18,8 @@ use Rattle.trellis.specs.Path.{signed}
 use Rattle.trellis.specs.laws.MaxPlus.{plus}
 use Rattle.trellis.specs.laws.Signs.{signed-within}
 use Rattle.trellis.specs.laws.Sizes.{Small, absent, present, small-known}
-use Rattle.siso.specs.laws.Held.{isNothing, held}
-use Rattle.siso.proofs.Held.{held-small}
+use Rattle.metrics.specs.Words.{isNothing, held}
+use Rattle.metrics.specs.laws.Held.{held-small}
 use Rattle.butterfly.specs.laws.Metrics.{IsSign, isMinus, gainOf}
 
 pub small-fits : (z : ℤ) → Within 200000000 z → SFits w32 z

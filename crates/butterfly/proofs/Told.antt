@@ -19,7 +19,7 @@ use Rattle.trellis.specs.declared.Position.{Position}
 use Rattle.trellis.specs.Table.{Table, systematic}
 use Rattle.trellis.specs.Path.{Values, aprioriAt}
 use Rattle.trellis.specs.Outcome.{outcomeOf, positionOf, extrinsic, mark, margin, intrinsic}
-use Rattle.siso.specs.laws.Held.{isNothing, held}
+use Rattle.metrics.specs.Words.{isNothing, held}
 use Rattle.siso.specs.laws.Pass.{Pass, Bests, Last, Written}
 use Rattle.siso.specs.laws.Told.{Tellable, markAt, marginAt, extrinsicAt, IsAt}
 use Rattle.siso.proofs.Gathering.{written-positions}

@@ -4,4 +4,3 @@ pub mod Metrics
 pub mod Tables
 pub mod Positions
 pub mod Flights
-pub mod Calls

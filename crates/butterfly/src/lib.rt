@@ -2,7 +2,7 @@
 // answered is the same.
 ghost use mathlib.Core.Path.{_≡_};
 ghost use Rattle.siso.specs.Decode.{decode as decoded};
-ghost use Rattle.siso.specs.Lent.{callOf, lentOf, resultOf};
+ghost use Rattle.siso.specs.Lent.{loneCallOf, loneLentOf, loneResultOf};
 
 mod checks;
 mod choice;
@@ -14,15 +14,14 @@ mod sweep;
 mod wings;
 
 use refusal::Reply;
-use trellis::End;
+use trellis::PassFormat;
 
+// A pass: the mark, margin and extrinsic of every position, or a refusal that writes none of them. The working list is zeros after done and 12, and as it was
+// after any other refusal.
 pub fn decode(
-    states: usize,
-    outputs: usize,
+    format: PassFormat,
     next: &[u8],
     words: &[u8],
-    end: End,
-    sections: usize,
     channel: &[i16],
     apriori: &[i16],
     marks: &mut [u8],
@@ -31,18 +30,15 @@ pub fn decode(
     work: &mut [i32],
 ) -> Reply
     ensures { λ r. ⌜
-        resultOf r (now (marks .exit)) (now (margins .exit)) (now (extrinsics .exit)) (now (work .exit))
+        loneResultOf r (now (marks .exit)) (now (margins .exit)) (now (extrinsics .exit)) (now (work .exit))
         ≡ decoded
-        (callOf states outputs (now (next .entry)) (now (words .entry)) end sections
-        (now (channel .entry)) (now (apriori .entry)))
-        (lentOf (now (marks .entry)) (now (margins .entry)) (now (extrinsics .entry)) (now (work .entry))) ⌝ }
+        (loneCallOf format (now (next .entry)) (now (words .entry)) (now (channel .entry)) (now (apriori .entry)))
+        (loneLentOf (now (marks .entry)) (now (margins .entry)) (now (extrinsics .entry)) (now (work .entry))) ⌝ }
 {
     if !checks::takes(
-        states,
-        outputs,
+        format,
         next,
         words,
-        sections,
         channel,
         apriori,
         marks.len(),
@@ -51,12 +47,9 @@ pub fn decode(
         work.len(),
     ) {
         return siso::decode(
-            states,
-            outputs,
+            format,
             next,
             words,
-            end,
-            sections,
             channel,
             apriori,
             marks,
@@ -66,11 +59,9 @@ pub fn decode(
         );
     }
     pass::run(
-        states,
+        format,
         next,
         words,
-        end,
-        sections,
         channel,
         apriori,
         marks,

@@ -2,8 +2,7 @@
 ghost use mathlib.Core.Path.{_≡_};
 ghost use Prim.Native.Nat.{_+_, _*_};
 ghost use lib.ListN.{length};
-ghost use Rattle.trellis.specs.Table.{tableOf};
-ghost use Rattle.siso.specs.Lent.{valuesOf, callOf, lentOf, resultOf};
+ghost use Rattle.siso.specs.Lent.{valuesOf, passTable, loneCallOf, loneLentOf, loneResultOf};
 ghost use Rattle.siso.specs.laws.Pass.{Pass};
 ghost use Rattle.siso.specs.laws.Settled.{walked};
 ghost use Rattle.butterfly.specs.laws.Tables.{IsButterfly};
@@ -13,15 +12,13 @@ use crate::wings::kind_of;
 use crate::wings::signs;
 use refusal::Refusal;
 use refusal::Reply;
-use trellis::End;
+use trellis::PassFormat;
 
 // No result is written where there is no path.
 pub fn run(
-    states: usize,
+    format: PassFormat,
     next: &[u8],
     words: &[u8],
-    end: End,
-    sections: usize,
     channel: &[i16],
     apriori: &[i16],
     marks: &mut [u8],
@@ -29,21 +26,23 @@ pub fn run(
     extrinsics: &mut [i32],
     work: &mut [i32],
 ) -> Reply
-    requires { ⌜ IsButterfly states 2 (now next) (now words) ⌝ }
+    requires { ⌜ IsButterfly (format .states) (format .outputs) (now next) (now words) ⌝ }
     requires { ⌜
-        Pass (tableOf states 2 (now next) (now words)) sections
+        Pass (passTable format (now next) (now words)) (format .sections)
         (valuesOf (now channel) (now apriori)) ⌝ }
-    requires { ⌜ length (now work) ≡ (sections + 1) * states ⌝ }
-    requires { ⌜ length (now marks) ≡ sections ⌝ }
-    requires { ⌜ length (now margins) ≡ sections ⌝ }
-    requires { ⌜ length (now extrinsics) ≡ sections ⌝ }
+    requires { ⌜ length (now work) ≡ (format .sections + 1) * format .states ⌝ }
+    requires { ⌜ length (now marks) ≡ format .sections ⌝ }
+    requires { ⌜ length (now margins) ≡ format .sections ⌝ }
+    requires { ⌜ length (now extrinsics) ≡ format .sections ⌝ }
     ensures { λ r. ⌜
-        resultOf r (now (marks .exit)) (now (margins .exit)) (now (extrinsics .exit)) (now (work .exit))
+        loneResultOf r (now (marks .exit)) (now (margins .exit)) (now (extrinsics .exit)) (now (work .exit))
         ≡ walked
-        (callOf states 2 (now (next .entry)) (now (words .entry)) end sections
-        (now (channel .entry)) (now (apriori .entry)))
-        (lentOf (now (marks .entry)) (now (margins .entry)) (now (extrinsics .entry)) (now (work .entry))) ⌝ }
+        (loneCallOf format (now (next .entry)) (now (words .entry)) (now (channel .entry)) (now (apriori .entry)))
+        (loneLentOf (now (marks .entry)) (now (margins .entry)) (now (extrinsics .entry)) (now (work .entry))) ⌝ }
 {
+    let states = format.states;
+    let sections = format.sections;
+    let end = format.end;
     let half = states / 2;
     let all = signs(half, next, words);
     let kind = kind_of(half, &all);
@@ -58,7 +57,7 @@ pub fn run(
         extrinsics,
         work,
     );
-    siso::clear(work);
+    metrics::clear(work);
     if !path {
         return Reply::Refused(Refusal::NoPath);
     }

@@ -11,20 +11,14 @@ ghost use Rattle.integers.specs.laws.Bounds.{Within};
 ghost use Rattle.lists.specs.Lists.{found};
 ghost use Rattle.trellis.specs.Outcome.{positionOf};
 ghost use Rattle.trellis.specs.laws.Sizes.{Small};
-ghost use Rattle.siso.specs.laws.Held.{held};
+ghost use Rattle.metrics.specs.Words.{held};
 ghost use Rattle.siso.specs.laws.Told.{Tellable, IsAt, LeftAt};
 ghost use Rattle.butterfly.specs.laws.Positions.{bestsAt, ToldAt};
-use siso::larger;
-use siso::reached;
-
-// The a-priori value and the systematic value of a section: what is known of its input bit but for the extrinsic part.
-pub fn own_of(a: i16, y: i16) -> i32
-    requires { ⌜ Within 8191 a ⌝ }
-    requires { ⌜ Within 1023 y ⌝ }
-    ensures { λ r. ⌜ r ≡ a +ℤ y ⌝ }
-{
-    a as i32 + y as i32
-}
+use metrics::half_difference;
+use metrics::is_free;
+use metrics::larger;
+use metrics::mark_of;
+use metrics::own_of;
 
 // The best metrics at a position with those of one start more, in the lists for margins and extrinsics. Of the first start they are its own.
 pub fn raise_at(
@@ -54,23 +48,6 @@ pub fn raise_at(
     }
 }
 
-// Whether a position is free: both best metrics are there.
-fn is_free(zero: i32, one: i32) -> bool
-    ensures { λ r. ⌜ r ≡ (found (held zero) && found (held one)) ⌝ }
-{
-    if reached(zero) { reached(one) } else { false }
-}
-
-// A position's mark: 2 for a free one, else the bit whose best metric is there.
-fn mark_of(free: bool, one: i32) -> u8
-    ensures { λ r. ⌜ r ≡ cond free 2 (cond (found (held one)) 1 0) ⌝ }
-{
-    if free {
-        return 2;
-    }
-    if reached(one) { 1 } else { 0 }
-}
-
 // The margin of a free position less a part of it; 0 for any other.
 fn margin_less(free: bool, zero: i32, one: i32, part: i32) -> i32
     requires { ⌜ Small 100000000 (held zero) ⌝ }
@@ -79,7 +56,11 @@ fn margin_less(free: bool, zero: i32, one: i32, part: i32) -> i32
     requires { ⌜ (free ≡ true → (held zero ≡ some zero) × (held one ≡ some one)) ⌝ }
     ensures { λ r. ⌜ r ≡ cond free (halfOf (one -ℤ zero) -ℤ part) (pos 0) ⌝ }
 {
-    if free { (one - zero) / 2 - part } else { 0 }
+    if free {
+        half_difference(zero, one) - part
+    } else {
+        0
+    }
 }
 
 // The position that the best metrics tell. Each list is written once and by no branch, so that the compiler works out several positions at a time.
@@ -132,7 +113,9 @@ pub fn tell(
 {
     let mut k: usize = 0;
     while k < sections {
-        let own = own_of(apriori[k], channel[2 * k]);
+        let a = apriori[k];
+        let y = channel[2 * k];
+        let own = own_of(a, y);
         tell_at(k, own, marks, margins, extrinsics);
         k += 1;
     }

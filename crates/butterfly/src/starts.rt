@@ -6,7 +6,7 @@ ghost use lib.ListN.{length};
 ghost use Rattle.trellis.specs.Table.{Table};
 ghost use Rattle.trellis.specs.laws.Sweeps.{starts as startsOf};
 ghost use Rattle.siso.specs.Lent.{valuesOf};
-ghost use Rattle.siso.specs.laws.Held.{row};
+ghost use Rattle.metrics.specs.Words.{row};
 ghost use Rattle.butterfly.specs.laws.Flights.{Winged, Flight, statesOf, Reach, Returning, Returned, Stage};
 ghost use Rattle.butterfly.specs.laws.Metrics.{Reached};
 use crate::step::Kind;
@@ -22,7 +22,7 @@ fn all_reached(states: usize, m: [i32; 16]) -> bool
     let mut s: usize = 0;
     while s < states {
         let x = m[s];
-        if !siso::reached(x) {
+        if !metrics::reached(x) {
             return false;
         }
         s += 1;
@@ -93,7 +93,7 @@ fn forward_all(
         start early (statesOf kind) (r .full) (r .metrics) (now (work .exit))) ⌝ }
 {
     let states = kind.half + kind.half;
-    let first = siso::beginning(start);
+    let first = metrics::beginning(start);
     let a = forward(false, kind, signs, 0, early, channel, apriori, first, work);
     let full = all_reached(states, a);
     let z = forward(
@@ -220,8 +220,8 @@ fn gather_from(
     let early = edge(kind.half, sections);
     let front = forward_all(kind, signs, early, sections, channel, apriori, start, work);
     let metrics = front.metrics;
-    let last = siso::ending(end, start);
-    let path = siso::arrived(metrics, last, kind.half + kind.half);
+    let last = metrics::ending(end, start);
+    let path = metrics::arrived(metrics, last, kind.half + kind.half);
     if both(!any, !path) {
         return false;
     }
@@ -268,7 +268,7 @@ pub fn gather_all(
         → (now (margins .exit) ≡ now (margins .entry))
         × (now (extrinsics .exit) ≡ now (extrinsics .entry))) ⌝ }
 {
-    let count = siso::start_count(end, kind.half + kind.half);
+    let count = metrics::starts(end, kind.half + kind.half);
     let mut any = false;
     let mut start: usize = 0;
     while start < count {

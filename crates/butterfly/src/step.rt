@@ -10,10 +10,11 @@ ghost use Rattle.trellis.specs.Outcome.{larger as greater};
 ghost use Rattle.trellis.specs.laws.MaxPlus.{plus as sum};
 ghost use Rattle.trellis.specs.laws.Sizes.{Small};
 ghost use Rattle.trellis.specs.laws.Sweeps.{advance};
-ghost use Rattle.siso.specs.laws.Held.{held, row, rowAt, Held};
+ghost use Rattle.metrics.specs.Words.{held, row, rowAt};
+ghost use Rattle.siso.specs.laws.Held.{Held};
 ghost use Rattle.butterfly.specs.laws.Metrics.{IsSign, isMinus, gainOf, Wings, Ready, Reached, Backed};
-use siso::NOTHING;
-use siso::larger;
+use metrics::NOTHING;
+use metrics::larger;
 
 // Which steps are for a table: how many wings it has, and whether it has the house code's signs or those of 3GPP's code.
 pub struct Kind {

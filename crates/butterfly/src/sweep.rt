@@ -3,14 +3,14 @@ ghost use mathlib.Core.Bool.{true};
 ghost use mathlib.Core.Path.{_≡_};
 ghost use Prim.Native.Nat.{ℕ, _*_, _<_, _≤_};
 ghost use lib.ListN.{length};
-ghost use Rattle.siso.specs.laws.Held.{row, rowAt};
+ghost use Rattle.metrics.specs.Words.{row, rowAt};
 ghost use Rattle.butterfly.specs.laws.Flights.{statesOf, Ahead, Forwarded, Behind, Gathered};
 ghost use Rattle.butterfly.specs.laws.Metrics.{Reached};
 use crate::choice::step_backwards;
 use crate::choice::step_forwards;
-use crate::position::own_of;
 use crate::position::raise_at;
 use crate::step::Kind;
+use metrics::own_of;
 
 // From the metrics before section `from` to those before section `to`. Those before each section are stored in the working list.
 pub fn forward(

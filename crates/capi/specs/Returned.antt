@@ -12,6 +12,7 @@ use Rattle.refusal.specs.Refusals.{numberOf, placeOf, Check, _unless_, firstOf,
 use Rattle.taps.specs.Build.{TapsLent, TapsResult}
 use Rattle.siso.specs.Decode.{Lent, Result}
 use Rattle.polynomial.specs.Polynomial.{PatternResult}
+use Rattle.frame.specs.declared.FrameFormat.{FrameFormat}
 use Rattle.coder.specs.Coder.{EncodeResult}
 use Rattle.decoder.specs.Decoder.{DecodeLent, DecodeResult}
 use Rattle.capi.specs.declared.ends.Ending.{Ending}
@@ -68,6 +69,11 @@ module _ {A : Type 0} where
 
   abbrev pub byEnds : ℕ → ℕ → A → (End → End → A) → A
   byEnds n m refused answer = byEnd n refused (λ first. byEnd m refused (answer first))
+
+-- what a frame is, from a call's numbers and its two ends
+abbrev pub formatOf : ℕ → ℕ → End → End → ℕ → ℕ → FrameFormat
+formatOf states outputs first second bits tail =
+    record { states = states; outputs = outputs; bits = bits; tail = tail; first = first; second = second }
 
 -- entries written to a list: 5 where it is not as long, and then it is as it was
 unfoldable pub writtenChecks : List ℕ → List ℕ → List Check

@@ -9,6 +9,7 @@ pub enum Ending {
     Unknown,
 }
 
+// The end that a number stands for: 0 zero, 1 open, 2 ring, and any other none.
 pub fn end_of(number: u32) -> Ending
     ensures { λ r. ⌜ r ≡ endOf number ⌝ }
 {

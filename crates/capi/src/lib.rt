@@ -12,12 +12,12 @@ ghost use Rattle.polynomial.specs.Polynomial.{patternBuilt, patternCallOf};
 ghost use Rattle.siso.specs.Decode.{decode as loneDecoded};
 ghost use Rattle.siso.specs.Lent.{callOf as loneCallOf, lentOf as loneLentOf};
 ghost use Rattle.coder.specs.Coder.{encode as encoded};
-ghost use Rattle.coder.specs.Lent.{encodeOf};
+ghost use Rattle.coder.specs.Lent.{encodeCallOf};
 ghost use Rattle.decoder.specs.Decoder.{decode as decoded};
-ghost use Rattle.decoder.specs.Lent.{callOf, lentOf};
+ghost use Rattle.decoder.specs.Lent.{decodeCallOf, decodeLentOf};
 ghost use Rattle.sheet.specs.Sheet.{answer as answerTo, FitsPage};
 ghost use Rattle.hints.specs.Hints.{hint, hintOf};
-ghost use Rattle.capi.specs.Returned.{returned, indexed, byEnd, byEnds, loneReturned, encodeReturned, decodeReturned};
+ghost use Rattle.capi.specs.Returned.{returned, indexed, byEnd, byEnds, formatOf, loneReturned, encodeReturned, decodeReturned};
 ghost use Rattle.capi.specs.Returned.{tapsReturned, patternReturned, written};
 
 mod ends;
@@ -26,6 +26,8 @@ use ends::Ending;
 use ends::end_of;
 use refusal::Refusal;
 use refusal::Reply;
+use trellis::End;
+use turbo::FrameFormat;
 
 // A decoder's reply: its number, and the index beside it, which is always written.
 fn tell(reply: Reply, index: &mut u64) -> u32
@@ -36,7 +38,8 @@ fn tell(reply: Reply, index: &mut u64) -> u32
     refusal::number_of(reply)
 }
 
-// The lone decoder.
+// The lone decoder: a pass over one trellis. It writes the three result lists after success alone, clears the working list after success and 12, and leaves
+// all of them as they were after any other refusal.
 #[no_mangle]
 pub extern "C" fn turbo_lone_decode(
     states: usize,
@@ -84,7 +87,28 @@ pub extern "C" fn turbo_lone_decode(
     tell(reply, index)
 }
 
-// The coder.
+// What a frame is, from a call's numbers and its two ends.
+fn frame_format(
+    states: usize,
+    outputs: usize,
+    first: End,
+    second: End,
+    bits: usize,
+    tail: usize,
+) -> FrameFormat
+    ensures { λ r. ⌜ r ≡ formatOf states outputs first second bits tail ⌝ }
+{
+    FrameFormat {
+        states,
+        outputs,
+        bits,
+        tail,
+        first,
+        second,
+    }
+}
+
+// The coder: the bits sent for a message, to `sent`, which stays as it was where the call is refused.
 #[no_mangle]
 pub extern "C" fn turbo_encode(
     states: usize,
@@ -106,7 +130,7 @@ pub extern "C" fn turbo_encode(
         (returned 2 (now (sent .entry)))
         (λ e1 e2. encodeReturned
         (encoded
-        (encodeOf states outputs (now (next .entry)) (now (words .entry)) e1 e2 bits tail
+        (encodeCallOf (formatOf states outputs e1 e2 bits tail) (now (next .entry)) (now (words .entry))
         (now (message .entry)) (now (pattern .entry)) (now (masks .entry)))
         (now (sent .entry)))) ⌝ }
 {
@@ -116,23 +140,12 @@ pub extern "C" fn turbo_encode(
     let Ending::Known(second) = end_of(end2) else {
         return refusal::number_of_refusal(Refusal::Shape);
     };
-    refusal::number_of(turbo::encode(
-        states,
-        outputs,
-        next,
-        words,
-        first,
-        second,
-        bits,
-        tail,
-        message,
-        pattern,
-        masks,
-        sent,
-    ))
+    let format = frame_format(states, outputs, first, second, bits, tail);
+    refusal::number_of(turbo::encode(format, next, words, message, pattern, masks, sent))
 }
 
-// The frame decoder.
+// The frame decoder. It writes the three result lists after success alone, clears the working list after success, 12 and 13, and leaves all of them as they
+// were after any other refusal.
 #[no_mangle]
 pub extern "C" fn turbo_decode(
     states: usize,
@@ -141,13 +154,13 @@ pub extern "C" fn turbo_decode(
     words: &[u8],
     end1: u32,
     end2: u32,
-    k: usize,
-    t: usize,
+    bits: usize,
+    tail: usize,
     pattern: &[u32],
     masks: &[u8],
     received: &[i16],
     iterations: usize,
-    bits: &mut [u8],
+    decided: &mut [u8],
     margins: &mut [i32],
     extrinsics: &mut [i32],
     work: &mut [i32],
@@ -155,14 +168,14 @@ pub extern "C" fn turbo_decode(
 ) -> u32
     ensures { λ r. ⌜
         indexed r (now (index .exit))
-        (lentOf (now (bits .exit)) (now (margins .exit)) (now (extrinsics .exit)) (now (work .exit)))
+        (decodeLentOf (now (decided .exit)) (now (margins .exit)) (now (extrinsics .exit)) (now (work .exit)))
         ≡ byEnds end1 end2
-        (indexed 2 0 (lentOf (now (bits .entry)) (now (margins .entry)) (now (extrinsics .entry)) (now (work .entry))))
+        (indexed 2 0 (decodeLentOf (now (decided .entry)) (now (margins .entry)) (now (extrinsics .entry)) (now (work .entry))))
         (λ e1 e2. decodeReturned
         (decoded
-        (callOf states outputs (now (next .entry)) (now (words .entry)) e1 e2 k t (now (pattern .entry)) (now (masks .entry))
-        (now (received .entry)) iterations)
-        (lentOf (now (bits .entry)) (now (margins .entry)) (now (extrinsics .entry)) (now (work .entry))))) ⌝ }
+        (decodeCallOf (formatOf states outputs e1 e2 bits tail) (now (next .entry)) (now (words .entry))
+        (now (pattern .entry)) (now (masks .entry)) (now (received .entry)) iterations)
+        (decodeLentOf (now (decided .entry)) (now (margins .entry)) (now (extrinsics .entry)) (now (work .entry))))) ⌝ }
 {
     let Ending::Known(first) = end_of(end1) else {
         return tell(Reply::Refused(Refusal::Shape), index);
@@ -170,20 +183,16 @@ pub extern "C" fn turbo_decode(
     let Ending::Known(second) = end_of(end2) else {
         return tell(Reply::Refused(Refusal::Shape), index);
     };
+    let format = frame_format(states, outputs, first, second, bits, tail);
     let reply = turbo::decode(
-        states,
-        outputs,
+        format,
         next,
         words,
-        first,
-        second,
-        k,
-        t,
         pattern,
         masks,
         received,
         iterations,
-        bits,
+        decided,
         margins,
         extrinsics,
         work,
@@ -191,7 +200,8 @@ pub extern "C" fn turbo_decode(
     tell(reply, index)
 }
 
-// The sheet. An answer has from 1 to 24,600 bytes, so 0 says that the list has no room for it, and one of 24,600 entries always has.
+// The answer to a sheet, to `out`, and its length. An answer has from 1 to 24,600 bytes, so 0 says that the list has no room for it and is as it was, and one
+// of 24,600 entries always has.
 #[no_mangle]
 pub extern "C" fn turbo_sheet(sheet: &[u8], out: &mut [u8]) -> usize
     ensures { λ r. ⌜ r ≡ cond (leb (length (answerTo (now (sheet .entry)))) (length (now (out .entry))))
@@ -229,7 +239,7 @@ fn write(entries: [u8; 8], list: &mut [u8]) -> u32
     0
 }
 
-// The house code's next states and words, for the entries above.
+// The house code's next states, to a list of eight; any other is refused by 5 and stays as it was.
 #[no_mangle]
 pub extern "C" fn turbo_house_next(list: &mut [u8]) -> u32
     ensures { λ r. ⌜ returned r (now (list .exit)) ≡ written (house .next) (now (list .entry)) ⌝ }
@@ -237,6 +247,7 @@ pub extern "C" fn turbo_house_next(list: &mut [u8]) -> u32
     write(turbo::house_next(), list)
 }
 
+// The house code's words, to a list of eight; any other is refused by 5 and stays as it was.
 #[no_mangle]
 pub extern "C" fn turbo_house_words(list: &mut [u8]) -> u32
     ensures { λ r. ⌜ returned r (now (list .exit)) ≡ written (house .words) (now (list .entry)) ⌝ }
@@ -244,7 +255,7 @@ pub extern "C" fn turbo_house_words(list: &mut [u8]) -> u32
     write(turbo::house_words(), list)
 }
 
-// A table from its taps.
+// The table that the taps give, to `next` and `words`; both stay as they were where it is refused.
 #[no_mangle]
 pub extern "C" fn turbo_taps_table(
     memory: usize,
@@ -262,7 +273,7 @@ pub extern "C" fn turbo_taps_table(
     refusal::number_of(turbo::taps_table(memory, feedback, parity, next, words))
 }
 
-// A pattern from its polynomial.
+// The pattern that a polynomial gives, to `pattern`, which stays as it was where it is refused.
 #[no_mangle]
 pub extern "C" fn turbo_polynomial_pattern(
     bits: usize,

@@ -26,11 +26,13 @@ use Rattle.frame.specs.Interleaver
 use Rattle.frame.specs.Frame
 use Rattle.frame.specs.Frame.{Frame}
 use Rattle.coder.specs.Coder
+use Rattle.soft.specs.Soft
 use Rattle.decoder.specs.Decoder
 use Rattle.text.specs.Text
 use Rattle.text.specs.Text.{bytes}
 use Rattle.text.specs.Decimal
-use Rattle.sheet.specs.Rows
+use Rattle.rows.specs.Rows
+use Rattle.rows.specs.Lines
 use Rattle.sheet.specs.Sheet
 
 -- what is given, and the answer that document 01 has for it
@@ -56,13 +58,14 @@ unfolding
     Table.nextState Table.word Table.output Table.systematic Table.shaped Table.branched Table.tableChecks
     Lone.listsFit Lone.lentChecks Lone.pathChecks Lone.checks Lone.settled Lone.decode
     Coder.tailFrom Coder.ringStart Coder.codedPath Coder.parityAt Coder.sectionAt Coder.places Coder.sentFor Coder.encodeListsFit Coder.encodeLentChecks Coder.encodePathChecks Coder.encodeChecks Coder.encodeSettled Coder.encode
-    Decoder.handOver Decoder.decided Decoder.channel1Under Decoder.channel1 Decoder.channel2Under Decoder.channel2 Decoder.pass Decoder.handOn Decoder.handBack Decoder.handedOn Decoder.iteration Decoder.priorAfter Decoder.lastPass Decoder.decodeListsFit Decoder.decodeLentChecks Decoder.bothWalked Decoder.bothFree Decoder.decodePathChecks Decoder.decodeChecks Decoder.decodeSettled Decoder.decode
+    Soft.handOver Soft.decided Decoder.channel1Under Decoder.channel1 Decoder.channel2Under Decoder.channel2 Decoder.pass Decoder.handOn Decoder.handBack Decoder.handedOn Decoder.iteration Decoder.priorAfter Decoder.lastPass Decoder.decodeListsFit Decoder.decodeLentChecks Decoder.bothWalked Decoder.bothFree Decoder.decodePathChecks Decoder.decodeChecks Decoder.decodeSettled Decoder.decode
     Frame.tailOf Frame.tail1 Frame.tail2 Frame.sections1 Frame.sections2 Frame.longer Frame.sizesFit Frame.masksFit Frame.codes Frame.maskAt Frame.maskFlags Frame.onesTo Frame.lengthUnder Frame.frameLength Frame.flagsUnder Frame.flags Frame.puncture Frame.spread
     House.houseParity House.houseNext House.house
     Interleaver.permutes Interleaver.place Interleaver.interleave Interleaver.deinterleave
     Decimal.numeral Decimal.natural Decimal.opposite Decimal.integer Decimal.digitsIn Decimal.digits Decimal.decimal
     Rows.fieldAt Rows.dash Rows.valueOrUnsent Rows.starts Rows.messageRow Rows.tailRow
-    Sheet.linesOf Sheet.lastPiece Sheet.rowCount Sheet.messageBits Sheet.lineFits Sheet.faultFrom Sheet.firstFault Sheet.faultLine Sheet.sizeFits Sheet.textChecks Sheet.messageAt Sheet.tailAt Sheet.valuesOf Sheet.callOf Sheet.lentFor Sheet.rowValues Sheet.loudLine Sheet.sheetChecks Sheet.refusalText Sheet.resultLine Sheet.resultText Sheet.printed Sheet.answer
+    Lines.linesOf Lines.lastPiece Lines.rowCount Lines.messageBits Lines.lineFits Lines.faultFrom Lines.firstFault Lines.faultLine Lines.sizeFits Lines.textChecks
+    Sheet.messageAt Sheet.tailAt Sheet.valuesOf Sheet.sheetCallOf Sheet.lentFor Sheet.rowValues Sheet.valueLine Sheet.sheetChecks Sheet.refusalText Sheet.resultLine Sheet.resultText Sheet.printed Sheet.answer
     Text.bytes Text.onFirst Text.cut Text.same
 computed (lonePass c l r) = lonePass c l (Lone.decode c l)
 computed (sheet s a) = sheet s (Sheet.answer s)

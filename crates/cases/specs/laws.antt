@@ -1,3 +1,4 @@
 pub mod CasesHold
 pub mod Places
 pub mod Ends
+pub mod Frames

@@ -12,36 +12,36 @@ ghost use Rattle.trellis.specs.Table.{tableOf};
 ghost use Rattle.frame.specs.Frame.{tailOf, goodSizes, goodMasks, goodCoder, lengthUnder};
 ghost use Rattle.frame.specs.Interleaver.{permutes};
 ghost use Rattle.coder.specs.Coder.{encodeLentChecks};
-ghost use Rattle.coder.specs.Lent.{encodeOf};
+ghost use Rattle.coder.specs.Lent.{encodeCallOf};
+use frame::FrameFormat;
 use refusal::Refusal;
 use refusal::Reply;
-use trellis::End;
 
 // The coder's lists, by their lengths: pattern and message have K entries, and the frame its own length.
 fn encode_lists_fit(
-    end1: End,
-    end2: End,
-    bits: usize,
-    tail: usize,
+    format: FrameFormat,
     masks: &[u8],
     pattern: usize,
     message: usize,
     sent: usize,
 ) -> bool
     ensures { λ r. ⌜
-        r ≡ (eqb pattern bits
-        && eqb message bits
-        && (goodSizes bits tail
+        r ≡ (eqb pattern (format .bits)
+        && eqb message (format .bits)
+        && (goodSizes (format .bits) (format .tail)
         && (not (goodMasks (now (masks .entry)))
-        || eqb sent (lengthUnder (now (masks .entry)) bits (tailOf end1 tail + tailOf end2 tail))))) ⌝ }
+        || eqb sent
+        (lengthUnder (now (masks .entry)) (format .bits)
+        (tailOf (format .first) (format .tail) + tailOf (format .second) (format .tail)))))) ⌝ }
 {
+    let bits = format.bits;
     if pattern != bits {
         return false;
     }
     if message != bits {
         return false;
     }
-    frame::frame_fits(masks, end1, end2, bits, tail, sent)
+    frame::frame_fits(format, masks, sent)
 }
 
 // What the lists hold: 7, 8, 9, 11.
@@ -73,14 +73,9 @@ fn entries_reply(
 
 // The reply to a call of the coder, but for 14, from what is lent alone.
 pub fn encode_reply(
-    states: usize,
-    outputs: usize,
+    format: FrameFormat,
     next: &[u8],
     words: &[u8],
-    end1: End,
-    end2: End,
-    bits: usize,
-    tail: usize,
     message: &[u8],
     pattern: &[u32],
     masks: &[u8],
@@ -89,27 +84,20 @@ pub fn encode_reply(
     ensures { λ r. ⌜
         r ≡ firstOf
         (encodeLentChecks
-        (encodeOf states outputs (now (next .entry)) (now (words .entry)) end1 end2 bits tail
+        (encodeCallOf format (now (next .entry)) (now (words .entry))
         (now (message .entry)) (now (pattern .entry)) (now (masks .entry)))
         (now (sent .entry))) ⌝ }
 {
+    let states = format.states;
+    let outputs = format.outputs;
     let table = trellis::table_reply(states, outputs, next, words);
     if let Reply::Refused(_) = table {
         return table;
     }
-    if !frame::sizes_fit(bits, tail) {
+    if !frame::sizes_fit(format.bits, format.tail) {
         return Reply::Refused(Refusal::Length);
     }
-    if !encode_lists_fit(
-        end1,
-        end2,
-        bits,
-        tail,
-        masks,
-        pattern.len(),
-        message.len(),
-        sent.len(),
-    ) {
+    if !encode_lists_fit(format, masks, pattern.len(), message.len(), sent.len()) {
         return Reply::Refused(Refusal::Lists);
     }
     entries_reply(states, outputs, next, words, message, pattern, masks)

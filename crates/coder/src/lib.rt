@@ -1,7 +1,7 @@
 // The coder: the two coders' sections with their tails, punctured to a frame.
 ghost use mathlib.Core.Path.{_≡_};
 ghost use Rattle.coder.specs.Coder.{encode as encoded};
-ghost use Rattle.coder.specs.Lent.{encodeOf, encodedOf};
+ghost use Rattle.coder.specs.Lent.{encodeCallOf, encodeResultOf};
 
 mod checks;
 mod interleaver;
@@ -9,58 +9,29 @@ mod puncture;
 mod sections;
 mod tail;
 
+use frame::FrameFormat;
 use refusal::Reply;
-use trellis::End;
 
-// The frame sent for a message, a bit an entry.
+// The frame sent for a message, a bit an entry. A refusal leaves the list as it was.
 pub fn encode(
-    states: usize,
-    outputs: usize,
+    format: FrameFormat,
     next: &[u8],
     words: &[u8],
-    end1: End,
-    end2: End,
-    bits: usize,
-    tail: usize,
     message: &[u8],
     pattern: &[u32],
     masks: &[u8],
     sent: &mut [u8],
 ) -> Reply
     ensures { λ r. ⌜
-        encodedOf r (now (sent .exit))
+        encodeResultOf r (now (sent .exit))
         ≡ encoded
-        (encodeOf states outputs (now (next .entry)) (now (words .entry)) end1 end2 bits tail
+        (encodeCallOf format (now (next .entry)) (now (words .entry))
         (now (message .entry)) (now (pattern .entry)) (now (masks .entry)))
         (now (sent .entry)) ⌝ }
 {
-    let reply = checks::encode_reply(
-        states,
-        outputs,
-        next,
-        words,
-        end1,
-        end2,
-        bits,
-        tail,
-        message,
-        pattern,
-        masks,
-        sent,
-    );
+    let reply = checks::encode_reply(format, next, words, message, pattern, masks, sent);
     if let Reply::Refused(_) = reply {
         return reply;
     }
-    sections::run(
-        next,
-        words,
-        end1,
-        end2,
-        bits,
-        tail,
-        message,
-        pattern,
-        masks,
-        sent,
-    )
+    sections::run(format, next, words, message, pattern, masks, sent)
 }

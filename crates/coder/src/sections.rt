@@ -9,7 +9,7 @@ ghost use Rattle.coder.specs.laws.Coding.{Coded, coded};
 ghost use Rattle.frame.specs.Interleaver.{interleave};
 ghost use Rattle.frame.specs.laws.Interleaving.{Permutes};
 ghost use Rattle.coder.specs.laws.Lent.{readCall, Codable};
-ghost use Rattle.coder.specs.Lent.{encodedOf};
+ghost use Rattle.coder.specs.Lent.{encodeResultOf};
 ghost use Rattle.coder.specs.laws.Leading.{Leads};
 ghost use Rattle.coder.specs.laws.Sections.{bitsOf};
 ghost use Rattle.coder.specs.laws.Walking.{Walked, Continued};
@@ -18,6 +18,7 @@ use crate::puncture::puncture;
 use crate::tail::Tail;
 use crate::tail::tail_from;
 use crate::tail::target;
+use frame::FrameFormat;
 use refusal::Refusal;
 use refusal::Reply;
 use trellis::End;
@@ -155,26 +156,27 @@ fn blank() -> [u8; 4096]
 
 // Codes what the checks accepted.
 pub fn run(
+    format: FrameFormat,
     next: &[u8],
     words: &[u8],
-    end1: End,
-    end2: End,
-    bits: usize,
-    tail: usize,
     message: &[u8],
     pattern: &[u32],
     masks: &[u8],
     sent: &mut [u8],
 ) -> Reply
     requires { ⌜ Codable
-        (readCall (now next) (now words) end1 end2 bits tail (now message) (now pattern) (now masks) .frame)
+        (readCall format (now next) (now words) (now message) (now pattern) (now masks) .frame)
         (now message) (now sent) ⌝ }
-    ensures { λ r. ⌜ encodedOf r (now (sent .exit))
+    ensures { λ r. ⌜ encodeResultOf r (now (sent .exit))
         ≡ coded
-        (readCall (now (next .entry)) (now (words .entry)) end1 end2 bits tail
+        (readCall format (now (next .entry)) (now (words .entry))
         (now (message .entry)) (now (pattern .entry)) (now (masks .entry)))
         (now (sent .entry)) ⌝ }
 {
+    let end1 = format.first;
+    let end2 = format.second;
+    let bits = format.bits;
+    let tail = format.tail;
     let tail1 = frame::tail_of(end1, tail);
     let tail2 = frame::tail_of(end2, tail);
     let count1 = bits + tail1;

@@ -3,11 +3,9 @@
 use mathlib.Core.Bool.{Bool, not, _&&_, _||_}
 use mathlib.Core.List.{List, [], _∷_, _++_, map}
 use Prim.Native.Nat.{ℕ, zero, suc, _+_, _*_, _-_}
-use lib.Dec.{eqb, leb}
-use lib.IntN.{ℤ, pos, negsuc, _*ℤ_}
+use lib.Dec.{eqb}
+use lib.IntN.{ℤ, pos}
 use lib.ListN.{length, getD, take, drop, replicate}
-use lib.Signed.{quotZ}
-use Rattle.integers.specs.Integers.{limited}
 use Rattle.lists.specs.Lists.{joined, any, upto}
 use Rattle.refusal.specs.declared.Refusal.the-variants.{Length, Lists, Pattern, Mask, Iterations, Coder, NoPath, ForcedPosition}
 use Rattle.refusal.specs.declared.Reply.{Reply}
@@ -15,38 +13,28 @@ use Rattle.refusal.specs.Refusals.{Check, _unless_, firstOf, after, cleared}
 use Rattle.trellis.specs.declared.End.{End}
 use Rattle.trellis.specs.Table.{tableChecks}
 use Rattle.trellis.specs.Path.{Values}
-use Rattle.trellis.specs.Limits.{aprioriLimit, channelCheck}
+use Rattle.trellis.specs.Limits.{channelCheck}
 use Rattle.trellis.specs.Outcome.{pathless, forced, margins, extrinsics}
 use Rattle.frame.specs.Interleaver.{permutes, interleave, deinterleave}
-use Rattle.frame.specs.Frame.{Frame, tailOf, tail1, tail2, sectionsOf, sections1, sections2, longer, sizesFit, masksFit, codes, frameLength, flags, spread}
-
--- ---- the rules of handing over and of deciding
-
--- an extrinsic as the other pass's a-priori value: three quarters of it, rounded towards zero, then limited to -8,191..8,191
-unfoldable pub handOver : ℤ → ℤ
-handOver e = limited aprioriLimit (quotZ (pos 3 *ℤ e) (pos 4))
-
--- the bit of a margin: 0 or more is bit 1
-unfoldable pub decided : ℤ → ℕ
-decided (pos m) = 1
-decided (negsuc m) = 0
+use Rattle.frame.specs.Frame.{Frame, tailOf, tail1, tail2, sectionsOf, sections1, sections2, longer, sizesFit, goodIterations, masksFit, codes, frameLength, flags, spread}
+use Rattle.soft.specs.Soft.{handOver, decided}
 
 -- ---- passes. r has a value for every place of the frame, and a the K a-priori values of the pass, in its own order
 
 abbrev valueAt : List ℤ → ℕ → ℤ
 valueAt r i = getD r i (pos 0)
 
--- pass 1 reads systematic k and parity 1 at k, then tail 1. (Of k positions; t1 and t2 are the tail sections of the coders.)
+-- pass 1 reads systematic i and parity 1 at i, then tail 1. (Of so many positions; t1 and t2 are the tail sections of the coders.)
 unfoldable pub channel1Under : ℕ → ℕ → List ℤ → List ℤ
-channel1Under k t1 r = joined (λ i. valueAt r (3 * i) ∷ valueAt r (3 * i + 1) ∷ []) k ++ take (2 * t1) (drop (3 * k) r)
+channel1Under bits t1 r = joined (λ i. valueAt r (3 * i) ∷ valueAt r (3 * i + 1) ∷ []) bits ++ take (2 * t1) (drop (3 * bits) r)
 
 unfoldable pub channel1 : Frame → List ℤ → List ℤ
 channel1 f r = channel1Under (f .bits) (tail1 f) r
 
--- pass 2 reads systematic pattern(k) and parity 2 at k, then tail 2
+-- pass 2 reads systematic pattern(i) and parity 2 at i, then tail 2
 unfoldable pub channel2Under : List ℕ → ℕ → ℕ → ℕ → List ℤ → List ℤ
-channel2Under pattern k t1 t2 r =
-    joined (λ i. valueAt r (3 * getD pattern i 0) ∷ valueAt r (3 * i + 2) ∷ []) k ++ take (2 * t2) (drop (3 * k + 2 * t1) r)
+channel2Under pattern bits t1 t2 r =
+    joined (λ i. valueAt r (3 * getD pattern i 0) ∷ valueAt r (3 * i + 2) ∷ []) bits ++ take (2 * t2) (drop (3 * bits + 2 * t1) r)
 
 unfoldable pub channel2 : Frame → List ℤ → List ℤ
 channel2 f r = channel2Under (f .pattern) (f .bits) (tail1 f) (tail2 f) r
@@ -76,13 +64,13 @@ handBack f s = deinterleave (pos 0) (f .pattern) (map handOver (s .extrinsics))
 
 -- the a-priori values of pass 2, by the channel values of pass 1 and its a-priori values
 unfoldable pub handedOn : Frame → List ℤ → List ℤ → List ℤ
-handedOn f first a = handOn f (pass f (f .first) first a)
+handedOn f values1 a = handOn f (pass f (f .first) values1 a)
 
 -- by the channel values of pass 1 and of pass 2
-module _ (f : Frame) (first second : List ℤ) where
+module _ (f : Frame) (values1 values2 : List ℤ) where
   -- an iteration is pass 1, then pass 2: what pass 2 says, from the a-priori values of pass 1
   unfoldable pub iteration : List ℤ → Soft
-  iteration a = pass f (f .second) second (handedOn f first a)
+  iteration a = pass f (f .second) values2 (handedOn f values1 a)
 
   -- the a-priori values of pass 1 after i iterations, the first of them from a
   unfoldable pub priorAfter : List ℤ → ℕ → List ℤ
@@ -111,10 +99,6 @@ pub record DecodeLent : Type 0 where
   pub margins : List ℤ
   pub extrinsics : List ℤ
   pub work : List ℤ
-
--- there are 1 to 32 iterations (not so: 10)
-abbrev pub goodIterations : ℕ → Bool
-goodIterations n = leb 1 n && leb n 32
 
 -- every list has its exact length; the frame's is measured only where 9 does not apply (not so: 5)
 unfoldable pub decodeListsFit : DecodeCall → DecodeLent → Bool

@@ -5,22 +5,7 @@ ghost use lib.IntN.{pos};
 ghost use lib.ListN.{length};
 ghost use Rattle.frame.specs.Interleaver.{interleave, deinterleave};
 ghost use Rattle.frame.specs.laws.Interleaving.{Permutes};
-ghost use Rattle.decoder.specs.Decoder.{handOver};
-
-// Three quarters of an extrinsic, rounded towards zero, then limited to -8,191..8,191. 64 bits hold three times any e.
-fn handed(e: i32) -> i16
-    ensures { λ r. ⌜ r ≡ handOver e ⌝ }
-{
-    let wide = e as i64;
-    let scaled = 3 * wide / 4;
-    if scaled < -8191 {
-        return -8191;
-    }
-    if 8191 < scaled {
-        return 8191;
-    }
-    scaled as i16
-}
+ghost use Rattle.soft.specs.Soft.{handOver};
 
 // From pass 1 to pass 2: out[i] is what xs[pattern[i]] hands over.
 pub fn hand_on(pattern: &[u32], xs: &[i32], out: &mut [i16])
@@ -32,7 +17,7 @@ pub fn hand_on(pattern: &[u32], xs: &[i32], out: &mut [i16])
     let mut i: usize = 0;
     while i < pattern.len() {
         let from = pattern[i] as usize;
-        out[i] = handed(xs[from]);
+        out[i] = soft::handed(xs[from]);
         i += 1;
     }
 }
@@ -47,7 +32,7 @@ pub fn hand_back(pattern: &[u32], xs: &[i32], out: &mut [i16])
     let mut i: usize = 0;
     while i < pattern.len() {
         let to = pattern[i] as usize;
-        out[to] = handed(xs[i]);
+        out[to] = soft::handed(xs[i]);
         i += 1;
     }
 }

@@ -12,14 +12,15 @@ use Rattle.lists.specs.Lists.{joined, count, isEmpty, found}
 use Rattle.text.specs.Text.{bytes, lineFeed}
 use Rattle.text.specs.Decimal.{digits}
 use Rattle.refusal.specs.declared.Refusal.{Refusal}
-use Rattle.refusal.specs.declared.Refusal.the-variants.{Text, Value, Pattern}
+use Rattle.refusal.specs.declared.Refusal.the-variants.{Text, ValueInLine, Pattern}
 use Rattle.refusal.specs.declared.Reply.the-variants.{Done}
 use Rattle.refusal.specs.Refusals.{told, Check, _unless_}
 use Rattle.refusal.specs.Replied.{allHold, IsFirstToFail}
 use Rattle.trellis.specs.Limits.{channelFits}
 use Rattle.frame.specs.Interleaver.{permutes}
 use Rattle.decoder.specs.Decoder.{DecodeResult}
-use Rattle.sheet.specs.Sheet.{linesOf, lastPiece, messageBits, lineFits, firstFault, faultLine, sizeFits, valuesOf, callOf, lentFor, rowValues, loudLine, resultLine}
+use Rattle.rows.specs.Lines.{linesOf, lastPiece, messageBits, lineFits, firstFault, faultLine, sizeFits}
+use Rattle.sheet.specs.Sheet.{valuesOf, sheetCallOf, lentFor, rowValues, valueLine, resultLine}
 use Rattle.demands.specs.Decoding.{IsDecoding}
 
 -- ---- refused
@@ -29,8 +30,8 @@ unfoldable pub sheetRules : List ℕ → List Check
 sheetRules sheet =
     Text 0 unless sizeFits sheet
     ∷ Text (faultLine sheet) unless not (found (firstFault sheet))
-    ∷ Value (loudLine sheet) unless channelFits (valuesOf sheet)
-    ∷ Pattern unless permutes (messageBits sheet) (callOf sheet .frame .pattern)
+    ∷ ValueInLine (valueLine sheet) unless channelFits (valuesOf sheet)
+    ∷ Pattern unless permutes (messageBits sheet) (sheetCallOf sheet .frame .pattern)
     ∷ []
 
 -- the first faulty line, the header being 1: that line breaks the rules, or it is a last piece without its line feed, and no line before it does
@@ -48,7 +49,7 @@ pub record IsFaultless (sheet : List ℕ) : Type 0 where
   pub ended : isEmpty (lastPiece sheet) ≡ true
 
 -- the line of the first value outside its limits, row by row: the row there has one, and no row before it has. The header is line 1
-pub record IsLoudLine (sheet : List ℕ) (line : ℕ) : Type 0 where
+pub record IsValueLine (sheet : List ℕ) (line : ℕ) : Type 0 where
   pub row : ℕ
   pub in-sheet : row < messageBits sheet + 2
   pub below-header : line ≡ row + 2
@@ -60,7 +61,7 @@ pub record IsRefusal (sheet text : List ℕ) : Type 0 where
   pub refusal : Refusal
   pub first : IsFirstToFail (sheetRules sheet) refusal
   pub faulty : (line : ℕ) → refusal ≡ Text line → line ≢ 0 → IsFaultyLine sheet line
-  pub loud : (line : ℕ) → refusal ≡ Value line → IsLoudLine sheet line
+  pub value : (line : ℕ) → refusal ≡ ValueInLine line → IsValueLine sheet line
   pub whole : text ≡ bytes "refused line\n" ++ digits (told refusal .number) ++ bytes " " ++ digits (told refusal .place) ++ bytes "\n"
 
 -- ---- decoded
@@ -71,7 +72,7 @@ pub record IsResult (sheet text : List ℕ) : Type 0 where
   pub unbroken : allHold (sheetRules sheet) ≡ true
   pub faultless : IsFaultless sheet
   pub result : DecodeResult
-  pub decoding : IsDecoding (callOf sheet) (lentFor sheet) result
+  pub decoding : IsDecoding (sheetCallOf sheet) (lentFor sheet) result
   pub done : result .reply ≡ Done
   pub whole : text ≡ bytes "at bit margin extrinsic\n" ++ joined (resultLine (result .lists)) (messageBits sheet)
   pub line-feeds : count (λ b. eqb b lineFeed) text ≡ messageBits sheet + 1

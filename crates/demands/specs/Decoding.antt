@@ -17,7 +17,8 @@ use Rattle.trellis.specs.Table.{Table}
 use Rattle.trellis.specs.Path.{Values, aprioriAt}
 use Rattle.trellis.specs.Outcome.{margin, intrinsic, extrinsic}
 use Rattle.frame.specs.Frame.{Frame, sectionsOf, flags, spread}
-use Rattle.decoder.specs.Decoder.{handOver, decided, channel1, channel2, DecodeCall, DecodeLent, DecodeResult}
+use Rattle.soft.specs.Soft.{handOver, decided}
+use Rattle.decoder.specs.Decoder.{channel1, channel2, DecodeCall, DecodeLent, DecodeResult}
 use Rattle.demands.specs.Meaning.{SomePath, IsEmptyClass, Means}
 
 -- ---- one pass
@@ -64,7 +65,7 @@ pub record AreIterations (f : Frame) (r : List ℤ) (n : ℕ) (first second : �
 -- ---- the whole call
 
 -- the lists written are those of a pass 2, deinterleaved: K entries each, and at pattern(k) what the pass says of its position k, which is free
-pub record AreWritten (f : Frame) (p : Pass) (l : DecodeLent) : Type 0 where
+pub record FrameListsWritten (f : Frame) (p : Pass) (l : DecodeLent) : Type 0 where
   pub bits-long : length (l .bits) ≡ f .bits
   pub margins-long : length (l .margins) ≡ f .bits
   pub extrinsics-long : length (l .extrinsics) ≡ f .bits
@@ -74,7 +75,7 @@ pub record AreWritten (f : Frame) (p : Pass) (l : DecodeLent) : Type 0 where
   pub extrinsic : (k : ℕ) → k < f .bits → getD (l .extrinsics) (patternAt f k) (pos 0) ≡ extrinsicAt (f .table) p k
 
 -- the result lists are as they were lent
-pub record AreKept (lent left : DecodeLent) : Type 0 where
+pub record FrameListsKept (lent left : DecodeLent) : Type 0 where
   pub bits : left .bits ≡ lent .bits
   pub margins : left .margins ≡ lent .margins
   pub extrinsics : left .extrinsics ≡ lent .extrinsics
@@ -105,6 +106,6 @@ pub record IsDecoding (c : DecodeCall) (lent : DecodeLent) (result : DecodeResul
   pub no-path : (result .reply ≡ Refused NoPath) ↔ (BothPaths (c .frame) → ⊥)
   pub forced : (result .reply ≡ Refused ForcedPosition) ↔ (BothPaths (c .frame) × EitherEmpty (c .frame))
   pub done : (result .reply ≡ Done) ↔ (BothPaths (c .frame) × (EitherEmpty (c .frame) → ⊥))
-  pub written : result .reply ≡ Done → AreWritten (c .frame) (second (c .iterations - 1)) (result .lists)
-  pub kept : (result .reply ≡ Done → ⊥) → AreKept lent (result .lists)
+  pub written : result .reply ≡ Done → FrameListsWritten (c .frame) (second (c .iterations - 1)) (result .lists)
+  pub kept : (result .reply ≡ Done → ⊥) → FrameListsKept lent (result .lists)
   pub cleared : result .lists .work ≡ replicate (length (lent .work)) (pos 0)

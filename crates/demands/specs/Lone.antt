@@ -23,14 +23,14 @@ pub record IsEntry (c : Call) (l : Lent) (k : ℕ) : Type 0 where
   pub extrinsic-is : getD (l .extrinsics) k (pos 0) ≡ extrinsic (intrinsic (c .table) (c .values) k) said
 
 -- the lists written: N entries each
-pub record AreWritten (c : Call) (l : Lent) : Type 0 where
+pub record LoneListsWritten (c : Call) (l : Lent) : Type 0 where
   pub marks-long : length (l .marks) ≡ c .sections
   pub margins-long : length (l .margins) ≡ c .sections
   pub extrinsics-long : length (l .extrinsics) ≡ c .sections
   pub entry : (k : ℕ) → k < c .sections → IsEntry c l k
 
 -- the result lists are as they were lent
-pub record AreKept (lent left : Lent) : Type 0 where
+pub record LoneListsKept (lent left : Lent) : Type 0 where
   pub marks : left .marks ≡ lent .marks
   pub margins : left .margins ≡ lent .margins
   pub extrinsics : left .extrinsics ≡ lent .extrinsics
@@ -39,6 +39,6 @@ pub record AreKept (lent left : Lent) : Type 0 where
 pub record IsLonePass (c : Call) (lent : Lent) (result : Result) : Type 0 where
   pub no-path : (result .reply ≡ Refused NoPath) ↔ (SomePath (c .table) (c .end) (c .sections) → ⊥)
   pub done : (result .reply ≡ Done) ↔ SomePath (c .table) (c .end) (c .sections)
-  pub written : result .reply ≡ Done → AreWritten c (result .lists)
-  pub kept : (result .reply ≡ Done → ⊥) → AreKept lent (result .lists)
+  pub written : result .reply ≡ Done → LoneListsWritten c (result .lists)
+  pub kept : (result .reply ≡ Done → ⊥) → LoneListsKept lent (result .lists)
   pub cleared : result .lists .work ≡ replicate (length (lent .work)) (pos 0)

@@ -11,7 +11,7 @@ pub mod EveryCoding
 pub mod RightPass
 pub mod Outputs
 pub mod Received
-pub mod Heard
+pub mod RightPlaces
 pub mod Leaning
 pub mod Passes
 pub mod RightIterations

@@ -1,25 +1,25 @@
 // Codes the message 1 and decodes a frame of one message bit with the house code.
 use refusal::Reply;
 use trellis::End;
+use turbo::FrameFormat;
 
-// The message 1, both coders ending at zero with two tail sections, everything sent: 1 1 1, then 1 0 1 1 for each tail.
+// The house code, one message bit, both coders ending at zero with two tail sections.
+fn one_bit() -> FrameFormat {
+    FrameFormat {
+        states: 4,
+        outputs: 2,
+        bits: 1,
+        tail: 2,
+        first: End::Zero,
+        second: End::Zero,
+    }
+}
+
+// The message 1, everything sent: 1 1 1, then 1 0 1 1 for each tail.
 fn send_one(sent: &mut [u8]) -> Reply {
     let next = turbo::house_next();
     let words = turbo::house_words();
-    turbo::encode(
-        4,
-        2,
-        &next,
-        &words,
-        End::Zero,
-        End::Zero,
-        1,
-        2,
-        &[1],
-        &[0],
-        &[7],
-        sent,
-    )
+    turbo::encode(one_bit(), &next, &words, &[1], &[0], &[7], sent)
 }
 
 // A frame with parity 2 unsent, after eight iterations: bit 1, margin 9, extrinsic 1.
@@ -33,14 +33,9 @@ fn read_one(
     let words = turbo::house_words();
     let received = [-3, 5, 2, -4, 1, 7, -6, 1, 4, 3];
     turbo::decode(
-        4,
-        2,
+        one_bit(),
         &next,
         &words,
-        End::Zero,
-        End::Zero,
-        1,
-        2,
         &[0],
         &[6],
         &received,

@@ -1,6 +1,6 @@
 -- A frame: its sizes, its masks, the places of its values and which of them are sent (document 01, "Frame").
 -- Assumes nothing.
-use mathlib.Core.Bool.{Bool, true, false, _&&_}
+use mathlib.Core.Bool.{Bool, true, false, cond, _&&_}
 use mathlib.Core.List.{List, [], _∷_, _++_}
 use Prim.Native.Nat.{ℕ, zero, suc, _+_, _*_, _/_, _%_, max}
 use lib.Count.{ones}
@@ -11,6 +11,7 @@ use Rattle.trellis.specs.declared.End.{End}
 use Rattle.trellis.specs.declared.End.the-variants.{Zero, Open, Ring}
 use Rattle.trellis.specs.Limits.{sectionLimit}
 use Rattle.trellis.specs.Table.{Table, tableOf, systematic}
+use Rattle.frame.specs.declared.FrameFormat.{FrameFormat}
 
 -- what coder and decoder agree on: the table, the end of each coder, K message bits, T tail sections, the pattern and the masks
 pub record Frame : Type 0 where
@@ -22,23 +23,23 @@ pub record Frame : Type 0 where
   pub pattern : List ℕ
   pub masks : List ℕ
 
--- the same as one value, from what an entry is lent
-abbrev pub frameOf : ℕ → ℕ → List ℕ → List ℕ → End → End → ℕ → ℕ → List ℕ → List ℕ → Frame
-frameOf states outputs next words first second bits tail pattern masks = record {
-  table = tableOf states outputs next words;
-  first = first;
-  second = second;
-  bits = bits;
-  tail = tail;
+-- the same from what an entry is lent: the format, the table's two lists, the pattern and the masks
+abbrev pub frameOf : FrameFormat → List ℕ → List ℕ → List ℕ → List ℕ → Frame
+frameOf format next words pattern masks = record {
+  table = tableOf (format .states) (format .outputs) next words;
+  first = format .first;
+  second = format .second;
+  bits = format .bits;
+  tail = format .tail;
   pattern = pattern;
   masks = masks;
 }
 
 -- the tail sections of a coder: T where it ends at zero, and else none
 unfoldable pub tailOf : End → ℕ → ℕ
-tailOf Zero t = t
-tailOf Open t = 0
-tailOf Ring t = 0
+tailOf Zero tail = tail
+tailOf Open tail = 0
+tailOf Ring tail = 0
 
 unfoldable pub tail1 : Frame → ℕ
 tail1 f = tailOf (f .first) (f .tail)
@@ -62,10 +63,22 @@ longer f = max (sections1 f) (sections2 f)
 
 -- K is at least 1, T is 0..4 and K + T at most 4,096 (not so: 4)
 abbrev pub goodSizes : ℕ → ℕ → Bool
-goodSizes k t = leb 1 k && leb t 4 && leb (k + t) sectionLimit
+goodSizes bits tail = leb 1 bits && leb tail 4 && leb (bits + tail) sectionLimit
 
 unfoldable pub sizesFit : Frame → Bool
 sizesFit f = goodSizes (f .bits) (f .tail)
+
+-- the entries of a decoder's working list: a row of metrics before each section of the longer coder, and one after the last. None for sizes
+-- that are refused, and for more than 16 states
+abbrev pub workLength : FrameFormat → ℕ
+workLength format =
+    cond (goodSizes (format .bits) (format .tail) && leb (format .states) 16)
+    ((max (format .bits + tailOf (format .first) (format .tail)) (format .bits + tailOf (format .second) (format .tail)) + 1) * format .states)
+    0
+
+-- there are 1 to 32 iterations (not so: 10)
+abbrev pub goodIterations : ℕ → Bool
+goodIterations n = leb 1 n && leb n 32
 
 -- the period, the length of the mask list, is 1..16, and a mask is below 8 (not so: 9)
 abbrev pub goodMasks : List ℕ → Bool
@@ -96,18 +109,18 @@ unfoldable pub onesTo : List ℕ → ℕ → ℕ
 onesTo masks zero = 0
 onesTo masks (suc k) = onesTo masks k + ones (maskAt masks k)
 
--- the length of a frame of k positions and t tail sections in all: over the positions, the number of ones in its masks, plus 2·t
+-- the length of a frame of so many positions and tail sections in all: over the positions, the number of ones in its masks, plus 2 a tail section
 unfoldable pub lengthUnder : List ℕ → ℕ → ℕ → ℕ
-lengthUnder masks k t = onesTo masks k + 2 * t
+lengthUnder masks bits tails = onesTo masks bits + 2 * tails
 
 unfoldable pub frameLength : Frame → ℕ
 frameLength f = lengthUnder (f .masks) (f .bits) (tail1 f + tail2 f)
 
 -- ---- places: systematic, parity 1 and parity 2 of each position, then tail 1, then tail 2, each systematic then parity, section by section
 
--- which places are sent: those that the masks say, and all of the t tail sections
+-- which places are sent: those that the masks say, and all of the tail sections
 unfoldable pub flagsUnder : List ℕ → ℕ → ℕ → List Bool
-flagsUnder masks k t = joined (λ i. maskFlags (maskAt masks i)) k ++ replicate (2 * t) true
+flagsUnder masks bits tails = joined (λ i. maskFlags (maskAt masks i)) bits ++ replicate (2 * tails) true
 
 unfoldable pub flags : Frame → List Bool
 flags f = flagsUnder (f .masks) (f .bits) (tail1 f + tail2 f)

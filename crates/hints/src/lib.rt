@@ -180,7 +180,7 @@ fn line_hint(text: &[u8]) -> Hint
     last_line(text)
 }
 
-// What is seen first.
+// What is seen first of a sheet, and its line. The sheet is only read.
 pub fn find(sheet: &[u8]) -> Hint
     ensures { λ r. ⌜ r ≡ hintOf (now (sheet .entry)) ⌝ }
 {

@@ -43,7 +43,7 @@ pub fn house_next() -> [u8; 8]
     next
 }
 
-// Their words: the input, then the parity.
+// The words of the eight branches, that of state s and bit b at 2·s + b: the input is output 1, the parity output 2.
 pub fn house_words() -> [u8; 8]
     ensures { λ r. ⌜ r ≡ house .words ⌝ }
 {

@@ -66,7 +66,7 @@ fn is_pattern(bits: usize, f1: usize, f2: usize) -> bool
     frame::permutes(&made[..bits])
 }
 
-// The pattern's K entries. The list is written only once they are known to be a pattern.
+// The K entries f1·i + f2·i² mod K, to `pattern`. The list is written only once they are known to be a pattern; where it is refused it is as it was.
 pub fn polynomial_pattern(bits: usize, f1: usize, f2: usize, pattern: &mut [u32]) -> Reply
     ensures { λ r. ⌜
         patternResultOf r (now (pattern .exit))

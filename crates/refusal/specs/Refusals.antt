@@ -8,7 +8,7 @@ use lib.Dec.{eqb}
 use lib.IntN.{ℤ, pos}
 use lib.ListN.{length, replicate}
 use Rattle.refusal.specs.declared.Refusal.{Refusal}
-use Rattle.refusal.specs.declared.Refusal.the-variants.{Text, Shape, Polynomial, Branch, Length, Lists, Value, Apriori, Bit, Pattern, Mask, Iterations, Coder, NoPath, ForcedPosition, NoTail}
+use Rattle.refusal.specs.declared.Refusal.the-variants.{Text, Shape, Polynomial, Branch, Length, Lists, Value, ValueInLine, Apriori, Bit, Pattern, Mask, Iterations, Coder, NoPath, ForcedPosition, NoTail}
 use Rattle.refusal.specs.declared.Reply.{Reply}
 use Rattle.refusal.specs.declared.Reply.the-variants.{Done, Refused}
 
@@ -28,7 +28,8 @@ told Polynomial = plain 15
 told Branch = plain 3
 told Length = plain 4
 told Lists = plain 5
-told (Value place) = record { number = 6; place = place }
+told (Value index) = record { number = 6; place = index }
+told (ValueInLine line) = record { number = 6; place = line }
 told (Apriori index) = record { number = 16; place = index }
 told Bit = plain 7
 told Pattern = plain 8

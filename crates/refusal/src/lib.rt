@@ -11,8 +11,9 @@ pub enum Refusal {
     Branch,
     Length,
     Lists,
-    // A channel value out of range, with the index of the first in its list; on a sheet with its line.
+    // A channel value out of range: in a call with the index of the first in its list, and on a sheet with its line.
     Value(usize),
+    ValueInLine(usize),
     // An a-priori value out of range, with the index of the first. It stands after 6.
     Apriori(usize),
     Bit,
@@ -42,6 +43,7 @@ pub fn number_of_refusal(why: Refusal) -> u32
         Refusal::Length => 4,
         Refusal::Lists => 5,
         Refusal::Value(_) => 6,
+        Refusal::ValueInLine(_) => 6,
         Refusal::Apriori(_) => 16,
         Refusal::Bit => 7,
         Refusal::Pattern => 8,
@@ -61,6 +63,7 @@ pub fn place_of_refusal(why: Refusal) -> usize
     match why {
         Refusal::Text(line) => line,
         Refusal::Value(index) => index,
+        Refusal::ValueInLine(line) => line,
         Refusal::Apriori(index) => index,
         _ => 0,
     }
@@ -86,7 +89,7 @@ pub fn place_of(reply: Reply) -> usize
     place_of_refusal(why)
 }
 
-// One check: refused by `why` unless it passes.
+// The reply to one check: refused by `why` unless it passes.
 pub fn check(passes: bool, why: Refusal) -> Reply
     ensures { λ r. ⌜ r ≡ checkOf passes why ⌝ }
 {
@@ -96,7 +99,7 @@ pub fn check(passes: bool, why: Refusal) -> Reply
     Reply::Refused(why)
 }
 
-// Two checks in turn: the first that refuses decides.
+// The reply to two checks in turn: the first that refuses decides.
 pub fn first_of(x: Reply, y: Reply) -> Reply
     ensures { λ r. ⌜ r ≡ (x then y) ⌝ }
 {

@@ -1,8 +1,5 @@
-pub mod Pieces
-pub mod Reading
-pub mod Fitting
 pub mod Receiving
-pub mod Loud
+pub mod Range
 pub mod Printing
 pub mod Decoding
 pub mod Answers

@@ -8,44 +8,11 @@ ghost use Rattle.sheet.specs.Sheet.{answer as answerTo, FitsPage};
 ghost use Rattle.sheet.specs.laws.Printing.{Wrote};
 
 mod decoding;
-mod faults;
-mod lines;
-mod loud;
 mod print;
-mod rows;
+mod range;
 mod values;
 
 use refusal::Reply;
-
-// How many pieces a text has, and where the last begins.
-pub struct Pieces {
-    pub count: usize,
-    pub last: usize,
-}
-
-// Where a piece begins and ends.
-pub struct Span {
-    pub from: usize,
-    pub to: usize,
-}
-
-// A message row as it is received, or zeros where the text is none.
-pub struct Message {
-    pub fits: bool,
-    pub to: u32,
-    pub sys: i32,
-    pub par: i32,
-    pub par2: i32,
-}
-
-// A tail row, or zeros where the text is none.
-pub struct Tail {
-    pub fits: bool,
-    pub sys: i32,
-    pub par: i32,
-    pub par2: i32,
-    pub sys2: i32,
-}
 
 // Room for the longest answer: a header and 512 lines.
 fn blank_page() -> [u8; 24600]
@@ -59,12 +26,11 @@ fn write_answer(page: &mut [u8], sheet: &[u8]) -> usize
     requires { ⌜ length (now page) ≡ 24600 ⌝ }
     ensures { λ r. ⌜ Wrote 24600 (now (page .entry)) 0 (answerTo (now (sheet .entry))) (now (page .exit)) r ⌝ }
 {
-    let reply = faults::text_reply(sheet);
+    let reply = rows::text_reply(sheet);
     if let Reply::Refused(why) = reply {
         return print::put_refusal(page, why);
     }
-    let cut = lines::pieces(sheet, 10);
-    let k = cut.count - 4;
+    let k = rows::message_bits(sheet);
     decoding::decode_sheet(page, sheet, k)
 }
 
@@ -80,7 +46,8 @@ fn deliver(bytes: &[u8], out: &mut [u8]) -> usize
     print::put(out, 0, bytes)
 }
 
-// The answer to a sheet: its bytes, and how many they are; nothing where the list has no room for them. A list of 24,600 entries always has.
+// The answer to a sheet: its bytes, and how many they are. Entries of `out` behind them stay as they were, and so do all where the list has no room, which
+// is told by 0. A list of 24,600 entries always has room. The sheet is only read.
 pub fn answer(sheet: &[u8], out: &mut [u8]) -> usize
     ensures { λ r. ⌜ r ≡ cond (leb (length (answerTo (now (sheet .entry)))) (length (now (out .entry))))
         (length (answerTo (now (sheet .entry)))) 0 ⌝ }

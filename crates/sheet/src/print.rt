@@ -3,7 +3,7 @@ ghost use mathlib.Core.List.{[], _∷_, _++_};
 ghost use mathlib.Core.Path.{_≡_};
 ghost use Prim.Native.Nat.{_+_, _*_, _≤_, _<_};
 ghost use lib.ListN.{length, take};
-ghost use Rattle.decoder.specs.Lent.{lentOf};
+ghost use Rattle.decoder.specs.Lent.{decodeLentOf};
 ghost use Rattle.refusal.specs.Refusals.{told};
 ghost use Rattle.text.specs.Decimal.{decimal as decimalOf};
 ghost use Rattle.sheet.specs.Sheet.{refusalText, resultText};
@@ -64,7 +64,7 @@ pub fn put_result(page: &mut [u8], bits: &[u8], margins: &[i32], extrinsics: &[i
     requires { ⌜ length (now margins) ≡ length (now bits) ⌝ }
     requires { ⌜ length (now extrinsics) ≡ length (now bits) ⌝ }
     ensures { λ r. ⌜ Wrote 24600 (now (page .entry)) 0
-        (resultText (lentOf (now (bits .entry)) (now (margins .entry)) (now (extrinsics .entry)) []))
+        (resultText (decodeLentOf (now (bits .entry)) (now (margins .entry)) (now (extrinsics .entry)) []))
         (now (page .exit)) r ⌝ }
 {
     let mut at = put(page, 0, b"at bit margin extrinsic\n");

@@ -9,11 +9,8 @@ ghost use Rattle.lists.specs.Lists.{listed, joined};
 ghost use Rattle.text.specs.Text.{cut};
 ghost use Rattle.trellis.specs.Limits.{channelFits};
 ghost use Rattle.sheet.specs.Sheet.{messageAt, messageValues};
-ghost use Rattle.sheet.specs.laws.Receiving.{bothTails, tailIn, valuesTo};
-use crate::Tail;
-use crate::lines::piece;
-use crate::rows::message;
-use crate::rows::tail;
+ghost use Rattle.sheet.specs.laws.Receiving.{bothTails, valuesTo};
+use rows::Tail;
 
 // Two values at a place; the place after them.
 fn put2(values: &mut [i32], at: usize, a: i32, b: i32) -> usize
@@ -48,24 +45,13 @@ fn read_messages(sheet: &[u8], pattern: &mut [u32], values: &mut [i32])
     let mut k: usize = 0;
     while k < pattern.len() {
         let end = text::next_at(sheet, from, 10);
-        let row = message(&sheet[from..end], k);
+        let row = rows::message_row(&sheet[from..end], k);
         let to = row.to;
         pattern[k] = to;
         put3(values, 3 * k, row.sys, row.par, row.par2);
         from = end + 1;
         k += 1;
     }
-}
-
-// Row k of a sheet as a tail row.
-fn tail_at(sheet: &[u8], k: usize) -> Tail
-    requires { ⌜ k ≤ 600 ⌝ }
-    ensures { λ r. ⌜ r ≡ tailIn (now (sheet .entry)) k ⌝ }
-{
-    let span = piece(sheet, 10, k + 1);
-    let from = span.from;
-    let to = span.to;
-    tail(&sheet[from..to], k)
 }
 
 // A tail row's part of tail 1.
@@ -105,8 +91,8 @@ pub fn read_frame(sheet: &[u8], pattern: &mut [u32], values: &mut [i32])
 {
     let k = pattern.len();
     read_messages(sheet, pattern, values);
-    let a = tail_at(sheet, k);
-    let b = tail_at(sheet, k + 1);
+    let a = rows::tail_in(sheet, k);
+    let b = rows::tail_in(sheet, k + 1);
     put_tails(values, 3 * k, a, b);
 }
 

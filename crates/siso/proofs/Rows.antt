@@ -19,7 +19,7 @@ use borrow.Author.Tests.{eqb-true, eqb-false}
 use Rattle.integers.specs.laws.Linear.{fits-of}
 use Rattle.trellis.specs.laws.MaxPlus.{larger-none}
 use Rattle.trellis.specs.Outcome.{larger}
-use Rattle.siso.specs.laws.Held.{held, row}
+use Rattle.metrics.specs.Words.{held, row}
 
 -- a word that comes back from a local stands for what it stood for
 pub kept : (z : ℤ) {x : Option ℤ} → mag z < 2 ^ hbits w32 → held z ≡ x → held (toZ w32 (ofZ w32 z)) ≡ x

@@ -11,7 +11,7 @@ use Rattle.trellis.specs.laws.MaxPlus.{plus, larger-assoc}
 use Rattle.trellis.specs.Outcome.{larger}
 use Rattle.trellis.specs.laws.Over.{over, over-zero, over-suc}
 use Rattle.trellis.specs.laws.Sweeps.{Row, arriving, advance}
-use Rattle.siso.specs.laws.Held.{held, row}
+use Rattle.metrics.specs.Words.{held, row}
 use Rattle.siso.proofs.Rows.{offered}
 
 pub over-more : (n : ℕ) (f : ℕ → Option ℤ) → over (n + 1) f ≡ larger (over n f) (f n)

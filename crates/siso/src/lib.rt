@@ -1,7 +1,7 @@
 // The lone decoder: one pass over a table and an end that its caller gives.
 ghost use mathlib.Core.Path.{_≡_};
 ghost use Rattle.siso.specs.Decode.{decode as decoded};
-ghost use Rattle.siso.specs.Lent.{callOf, lentOf, resultOf};
+ghost use Rattle.siso.specs.Lent.{loneCallOf, loneLentOf, loneResultOf};
 
 mod checks;
 mod metric;
@@ -11,24 +11,15 @@ mod section;
 mod starts;
 mod sweep;
 
-pub use metric::NOTHING;
-pub use metric::arrived;
-pub use metric::beginning;
-pub use metric::ending;
-pub use metric::larger;
-pub use metric::reached;
-pub use metric::starts as start_count;
-pub use pass::clear;
 use refusal::Reply;
-use trellis::End;
+use trellis::PassFormat;
 
+// A pass: the mark, margin and extrinsic of every position, or a refusal that writes none of them. The working list is zeros after done and 12, and as it was
+// after any other refusal.
 pub fn decode(
-    states: usize,
-    outputs: usize,
+    format: PassFormat,
     next: &[u8],
     words: &[u8],
-    end: End,
-    sections: usize,
     channel: &[i16],
     apriori: &[i16],
     marks: &mut [u8],
@@ -37,18 +28,15 @@ pub fn decode(
     work: &mut [i32],
 ) -> Reply
     ensures { λ r. ⌜
-        resultOf r (now (marks .exit)) (now (margins .exit)) (now (extrinsics .exit)) (now (work .exit))
+        loneResultOf r (now (marks .exit)) (now (margins .exit)) (now (extrinsics .exit)) (now (work .exit))
         ≡ decoded
-        (callOf states outputs (now (next .entry)) (now (words .entry)) end sections
-        (now (channel .entry)) (now (apriori .entry)))
-        (lentOf (now (marks .entry)) (now (margins .entry)) (now (extrinsics .entry)) (now (work .entry))) ⌝ }
+        (loneCallOf format (now (next .entry)) (now (words .entry)) (now (channel .entry)) (now (apriori .entry)))
+        (loneLentOf (now (marks .entry)) (now (margins .entry)) (now (extrinsics .entry)) (now (work .entry))) ⌝ }
 {
     let reply = checks::reply(
-        states,
-        outputs,
+        format,
         next,
         words,
-        sections,
         channel,
         apriori,
         marks.len(),
@@ -60,12 +48,9 @@ pub fn decode(
         return reply;
     }
     pass::run(
-        states,
-        outputs,
+        format,
         next,
         words,
-        end,
-        sections,
         channel,
         apriori,
         marks,

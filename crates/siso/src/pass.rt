@@ -1,36 +1,20 @@
 // A pass behind its checks.
 ghost use mathlib.Core.Path.{_≡_};
 ghost use Prim.Native.Nat.{_+_, _*_};
-ghost use lib.IntN.{pos};
-ghost use lib.ListN.{length, replicate};
-ghost use Rattle.trellis.specs.Table.{tableOf};
-ghost use Rattle.siso.specs.Lent.{valuesOf, callOf, lentOf, resultOf};
+ghost use lib.ListN.{length};
+ghost use Rattle.siso.specs.Lent.{valuesOf, passTable, loneCallOf, loneLentOf, loneResultOf};
 ghost use Rattle.siso.specs.laws.Pass.{Pass};
 ghost use Rattle.siso.specs.laws.Settled.{walked};
 use crate::starts::gather_all;
 use refusal::Refusal;
 use refusal::Reply;
-use trellis::End;
-
-// A working list cleared.
-pub fn clear(work: &mut [i32])
-    ensures { λ _. ⌜ now (work .exit) ≡ replicate (length (now (work .entry))) (pos 0) ⌝ }
-{
-    let mut i: usize = 0;
-    while i < work.len() {
-        work[i] = 0;
-        i += 1;
-    }
-}
+use trellis::PassFormat;
 
 // A pass over what the checks accepted. No result is written where there is no path.
 pub fn run(
-    states: usize,
-    outputs: usize,
+    format: PassFormat,
     next: &[u8],
     words: &[u8],
-    end: End,
-    sections: usize,
     channel: &[i16],
     apriori: &[i16],
     marks: &mut [u8],
@@ -39,28 +23,24 @@ pub fn run(
     work: &mut [i32],
 ) -> Reply
     requires { ⌜
-        Pass (tableOf states outputs (now next) (now words)) sections
+        Pass (passTable format (now next) (now words)) (format .sections)
         (valuesOf (now channel) (now apriori)) ⌝ }
-    requires { ⌜ length (now work) ≡ (sections + 1) * states ⌝ }
-    requires { ⌜ length (now marks) ≡ sections ⌝ }
-    requires { ⌜ length (now margins) ≡ sections ⌝ }
-    requires { ⌜ length (now extrinsics) ≡ sections ⌝ }
+    requires { ⌜ length (now work) ≡ (format .sections + 1) * format .states ⌝ }
+    requires { ⌜ length (now marks) ≡ format .sections ⌝ }
+    requires { ⌜ length (now margins) ≡ format .sections ⌝ }
+    requires { ⌜ length (now extrinsics) ≡ format .sections ⌝ }
     ensures { λ r. ⌜
-        resultOf r (now (marks .exit)) (now (margins .exit)) (now (extrinsics .exit)) (now (work .exit))
+        loneResultOf r (now (marks .exit)) (now (margins .exit)) (now (extrinsics .exit)) (now (work .exit))
         ≡ walked
-        (callOf states outputs (now (next .entry)) (now (words .entry)) end sections
-        (now (channel .entry)) (now (apriori .entry)))
-        (lentOf (now (marks .entry)) (now (margins .entry)) (now (extrinsics .entry)) (now (work .entry))) ⌝ }
+        (loneCallOf format (now (next .entry)) (now (words .entry)) (now (channel .entry)) (now (apriori .entry)))
+        (loneLentOf (now (marks .entry)) (now (margins .entry)) (now (extrinsics .entry)) (now (work .entry))) ⌝ }
 {
     let mut of_words = [0; 16];
-    let g = &mut of_words[..trellis::word_count(outputs)];
+    let g = &mut of_words[..trellis::word_count(format.outputs)];
     let path = gather_all(
-        states,
-        outputs,
+        format,
         next,
         words,
-        end,
-        sections,
         channel,
         apriori,
         marks,
@@ -69,7 +49,7 @@ pub fn run(
         g,
         work,
     );
-    clear(work);
+    metrics::clear(work);
     if !path {
         return Reply::Refused(Refusal::NoPath);
     }

@@ -8,21 +8,22 @@ ghost use lib.ListN.{length, getD, set};
 ghost use Rattle.integers.specs.laws.Bounds.{Within};
 ghost use Rattle.trellis.specs.Outcome.{outcomeOf, positionOf, mark as markOf, margin as marginOf};
 ghost use Rattle.trellis.specs.laws.Sizes.{Small};
-ghost use Rattle.siso.specs.laws.Held.{held};
+ghost use Rattle.metrics.specs.Words.{held};
 ghost use Rattle.siso.specs.laws.Told.{before, raised, Tellable, LeftAt};
-use crate::metric::NOTHING;
-use crate::metric::larger;
-use crate::metric::reached;
+use metrics::NOTHING;
+use metrics::half_difference;
+use metrics::is_free;
+use metrics::larger;
+use metrics::mark_of;
+use metrics::own_of;
 use trellis::Outcome;
 use trellis::Position;
 
 // The intrinsic part of the margin at a section.
 pub fn intrinsic(y: i16, a: i16, sys: bool) -> i32
-    requires { ⌜ Within 1023 y ⌝ }
-    requires { ⌜ Within 8191 a ⌝ }
     ensures { λ r. ⌜ r ≡ a +ℤ cond sys y (pos 0) ⌝ }
 {
-    if sys { a as i32 + y as i32 } else { a as i32 }
+    if sys { own_of(a, y) } else { a as i32 }
 }
 
 // The position, from the best metrics with bit 0 and with bit 1, one of which is there, and the intrinsic part of its margin.
@@ -33,19 +34,14 @@ fn settled(zero: i32, one: i32, intrinsic: i32) -> Position
     requires { ⌜ (outcomeOf (held zero) (held one) ≡ none → ⊥) ⌝ }
     ensures { λ r. ⌜ some r ≡ positionOf intrinsic (outcomeOf (held zero) (held one)) ⌝ }
 {
-    if !reached(one) {
+    let free = is_free(zero, one);
+    if !free {
         return Position {
-            outcome: Outcome::Forced(0),
+            outcome: Outcome::Forced(mark_of(free, one)),
             extrinsic: 0,
         };
     }
-    if !reached(zero) {
-        return Position {
-            outcome: Outcome::Forced(1),
-            extrinsic: 0,
-        };
-    }
-    let margin = (one - zero) / 2;
+    let margin = half_difference(zero, one);
     Position {
         outcome: Outcome::Free(margin),
         extrinsic: margin - intrinsic,

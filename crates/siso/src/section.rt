@@ -8,11 +8,12 @@ ghost use Rattle.integers.specs.laws.Bounds.{Within};
 ghost use Rattle.trellis.specs.Table.{output as outputOf};
 ghost use Rattle.trellis.specs.Path.{signed as signedBy, wordMetric};
 ghost use Rattle.trellis.specs.laws.Sweeps.{advance, retreat};
-ghost use Rattle.siso.specs.laws.Held.{held, row, rowAt, targetOf, branchMetricOf, bestOf, WordMetrics, Ready, Held, Saved};
-use crate::metric::NOTHING;
-use crate::metric::larger;
+ghost use Rattle.metrics.specs.Words.{held, row, rowAt};
+ghost use Rattle.siso.specs.laws.Held.{targetOf, branchMetricOf, bestOf, WordMetrics, Ready, Held, Saved};
 use crate::metric::plus;
 use crate::metric::through;
+use metrics::NOTHING;
+use metrics::larger;
 
 // Bit l of a word.
 fn output(word: usize, l: usize) -> usize

@@ -3,24 +3,20 @@ ghost use mathlib.Core.Bool.{true, false};
 ghost use mathlib.Core.Path.{_≡_};
 ghost use Prim.Native.Nat.{_+_, _*_, _^_, _<_};
 ghost use lib.ListN.{length};
-ghost use Rattle.trellis.specs.Table.{tableOf};
 ghost use Rattle.trellis.specs.laws.Sweeps.{starts as startsOf};
-ghost use Rattle.siso.specs.Lent.{valuesOf};
-ghost use Rattle.siso.specs.laws.Pass.{Pass, Stage, AreKept};
-use crate::metric::either;
-use crate::metric::starts;
+ghost use Rattle.siso.specs.Lent.{valuesOf, passTable};
+ghost use Rattle.siso.specs.laws.Pass.{Pass, Stage, ListsKept};
 use crate::sweep::forward;
 use crate::sweep::gather;
-use trellis::End;
+use metrics::either;
+use metrics::starts;
+use trellis::PassFormat;
 
 // One state to start in more, where `any` says whether a state before it has a path. Until one has, no list but the working list is written.
 fn gather_from(
-    states: usize,
-    outputs: usize,
+    format: PassFormat,
     next: &[u8],
     words: &[u8],
-    end: End,
-    sections: usize,
     channel: &[i16],
     apriori: &[i16],
     start: usize,
@@ -32,48 +28,34 @@ fn gather_from(
     work: &mut [i32],
 ) -> bool
     requires { ⌜
-        Pass (tableOf states outputs (now next) (now words)) sections
+        Pass (passTable format (now next) (now words)) (format .sections)
         (valuesOf (now channel) (now apriori)) ⌝ }
-    requires { ⌜ start < startsOf states end ⌝ }
-    requires { ⌜ length (now g) ≡ 2 ^ outputs ⌝ }
-    requires { ⌜ length (now work) ≡ (sections + 1) * states ⌝ }
+    requires { ⌜ start < startsOf (format .states) (format .end) ⌝ }
+    requires { ⌜ length (now g) ≡ 2 ^ format .outputs ⌝ }
+    requires { ⌜ length (now work) ≡ (format .sections + 1) * format .states ⌝ }
     requires { ⌜
-        Stage (tableOf states outputs (now next) (now words)) (valuesOf (now channel) (now apriori))
-        end sections start any (now marks) (now margins) (now extrinsics) ⌝ }
+        Stage (passTable format (now next) (now words)) (valuesOf (now channel) (now apriori))
+        (format .end) (format .sections) start any (now marks) (now margins) (now extrinsics) ⌝ }
     ensures { λ r. ⌜
         Stage
-        (tableOf states outputs (now (next .entry)) (now (words .entry)))
+        (passTable format (now (next .entry)) (now (words .entry)))
         (valuesOf (now (channel .entry)) (now (apriori .entry)))
-        end sections (start + 1) r (now (marks .exit)) (now (margins .exit)) (now (extrinsics .exit)) ⌝ }
+        (format .end) (format .sections) (start + 1) r (now (marks .exit)) (now (margins .exit)) (now (extrinsics .exit)) ⌝ }
     ensures { λ r. ⌜
-        (r ≡ false → AreKept
+        (r ≡ false → ListsKept
         (now (marks .entry)) (now (margins .entry)) (now (extrinsics .entry))
         (now (marks .exit)) (now (margins .exit)) (now (extrinsics .exit))) ⌝ }
 {
-    let path = forward(
-        states,
-        outputs,
-        next,
-        words,
-        end,
-        sections,
-        channel,
-        apriori,
-        start,
-        g,
-        work,
-    );
+    let path = forward(format, next, words, channel, apriori, start, g, work);
     if !either(any, path) {
         return false;
     }
-    let last = start + 1 == starts(end, states);
+    let end = format.end;
+    let last = start + 1 == starts(end, format.states);
     gather(
-        states,
-        outputs,
+        format,
         next,
         words,
-        end,
-        sections,
         channel,
         apriori,
         start,
@@ -90,12 +72,9 @@ fn gather_from(
 
 // Whether there is a path; if there is, the result lists of all paths.
 pub fn gather_all(
-    states: usize,
-    outputs: usize,
+    format: PassFormat,
     next: &[u8],
     words: &[u8],
-    end: End,
-    sections: usize,
     channel: &[i16],
     apriori: &[i16],
     marks: &mut [u8],
@@ -105,34 +84,32 @@ pub fn gather_all(
     work: &mut [i32],
 ) -> bool
     requires { ⌜
-        Pass (tableOf states outputs (now next) (now words)) sections
+        Pass (passTable format (now next) (now words)) (format .sections)
         (valuesOf (now channel) (now apriori)) ⌝ }
-    requires { ⌜ length (now g) ≡ 2 ^ outputs ⌝ }
-    requires { ⌜ length (now work) ≡ (sections + 1) * states ⌝ }
-    requires { ⌜ length (now marks) ≡ sections ⌝ }
-    requires { ⌜ length (now margins) ≡ sections ⌝ }
-    requires { ⌜ length (now extrinsics) ≡ sections ⌝ }
+    requires { ⌜ length (now g) ≡ 2 ^ format .outputs ⌝ }
+    requires { ⌜ length (now work) ≡ (format .sections + 1) * format .states ⌝ }
+    requires { ⌜ length (now marks) ≡ format .sections ⌝ }
+    requires { ⌜ length (now margins) ≡ format .sections ⌝ }
+    requires { ⌜ length (now extrinsics) ≡ format .sections ⌝ }
     ensures { λ r. ⌜
         Stage
-        (tableOf states outputs (now (next .entry)) (now (words .entry)))
+        (passTable format (now (next .entry)) (now (words .entry)))
         (valuesOf (now (channel .entry)) (now (apriori .entry)))
-        end sections (startsOf states end) r (now (marks .exit)) (now (margins .exit)) (now (extrinsics .exit)) ⌝ }
+        (format .end) (format .sections) (startsOf (format .states) (format .end)) r (now (marks .exit)) (now (margins .exit)) (now (extrinsics .exit)) ⌝ }
     ensures { λ r. ⌜
-        (r ≡ false → AreKept
+        (r ≡ false → ListsKept
         (now (marks .entry)) (now (margins .entry)) (now (extrinsics .entry))
         (now (marks .exit)) (now (margins .exit)) (now (extrinsics .exit))) ⌝ }
 {
-    let count = starts(end, states);
+    let end = format.end;
+    let count = starts(end, format.states);
     let mut any = false;
     let mut start: usize = 0;
     while start < count {
         let path = gather_from(
-            states,
-            outputs,
+            format,
             next,
             words,
-            end,
-            sections,
             channel,
             apriori,
             start,

@@ -4,21 +4,17 @@ ghost use mathlib.Core.Path.{_≡_};
 ghost use Prim.Native.Nat.{_+_, _*_, _^_, _<_};
 ghost use lib.ListN.{length};
 ghost use Rattle.lists.specs.Lists.{found};
-ghost use Rattle.trellis.specs.Table.{tableOf};
 ghost use Rattle.trellis.specs.laws.Sweeps.{starts as startsOf, reachFrom};
-ghost use Rattle.siso.specs.Lent.{valuesOf};
+ghost use Rattle.siso.specs.Lent.{valuesOf, passTable};
 ghost use Rattle.siso.specs.laws.Pass.{Pass, Forward, Bests, Last, Written};
-use trellis::End;
+use trellis::PassFormat;
 
 // The forward metrics before every section of paths that start in a state, in the working list; and whether one finishes where the end lets it. The
 // list g takes the metrics of a section's words.
 pub fn forward(
-    states: usize,
-    outputs: usize,
+    format: PassFormat,
     next: &[u8],
     words: &[u8],
-    end: End,
-    sections: usize,
     channel: &[i16],
     apriori: &[i16],
     start: usize,
@@ -26,24 +22,28 @@ pub fn forward(
     work: &mut [i32],
 ) -> bool
     requires { ⌜
-        Pass (tableOf states outputs (now next) (now words)) sections
+        Pass (passTable format (now next) (now words)) (format .sections)
         (valuesOf (now channel) (now apriori)) ⌝ }
-    requires { ⌜ start < startsOf states end ⌝ }
-    requires { ⌜ length (now g) ≡ 2 ^ outputs ⌝ }
-    requires { ⌜ length (now work) ≡ (sections + 1) * states ⌝ }
+    requires { ⌜ start < startsOf (format .states) (format .end) ⌝ }
+    requires { ⌜ length (now g) ≡ 2 ^ format .outputs ⌝ }
+    requires { ⌜ length (now work) ≡ (format .sections + 1) * format .states ⌝ }
     ensures { λ _. ⌜
         Forward
-        (tableOf states outputs (now (next .entry)) (now (words .entry)))
+        (passTable format (now (next .entry)) (now (words .entry)))
         (valuesOf (now (channel .entry)) (now (apriori .entry)))
-        start sections (now (work .exit)) ⌝ }
+        start (format .sections) (now (work .exit)) ⌝ }
     ensures { λ r. ⌜
         r ≡ found
         (reachFrom
-        (tableOf states outputs (now (next .entry)) (now (words .entry)))
+        (passTable format (now (next .entry)) (now (words .entry)))
         (valuesOf (now (channel .entry)) (now (apriori .entry)))
-        end sections start) ⌝ }
+        (format .end) (format .sections) start) ⌝ }
 {
-    let mut m = crate::metric::beginning(start);
+    let states = format.states;
+    let outputs = format.outputs;
+    let sections = format.sections;
+    let end = format.end;
+    let mut m = metrics::beginning(start);
     let mut k: usize = 0;
     while k < sections {
         let from = outputs * k;
@@ -62,18 +62,15 @@ pub fn forward(
         m = after;
         k += 1;
     }
-    crate::metric::arrived(m, crate::metric::ending(end, start), states)
+    metrics::arrived(m, metrics::ending(end, start), states)
 }
 
 // The best metrics with bit 0 and with bit 1 at every position, of paths that start in one of the states up to this one, from those of paths that start in
 // the states before it; from the last start the positions that they tell. The sweep goes from the last section to the first.
 pub fn gather(
-    states: usize,
-    outputs: usize,
+    format: PassFormat,
     next: &[u8],
     words: &[u8],
-    end: End,
-    sections: usize,
     channel: &[i16],
     apriori: &[i16],
     start: usize,
@@ -86,32 +83,36 @@ pub fn gather(
     work: &[i32],
 )
     requires { ⌜
-        Pass (tableOf states outputs (now next) (now words)) sections
+        Pass (passTable format (now next) (now words)) (format .sections)
         (valuesOf (now channel) (now apriori)) ⌝ }
-    requires { ⌜ start < startsOf states end ⌝ }
-    requires { ⌜ length (now g) ≡ 2 ^ outputs ⌝ }
-    requires { ⌜ length (now work) ≡ (sections + 1) * states ⌝ }
+    requires { ⌜ start < startsOf (format .states) (format .end) ⌝ }
+    requires { ⌜ length (now g) ≡ 2 ^ format .outputs ⌝ }
+    requires { ⌜ length (now work) ≡ (format .sections + 1) * format .states ⌝ }
     requires { ⌜
-        Forward (tableOf states outputs (now next) (now words)) (valuesOf (now channel) (now apriori))
-        start sections (now work) ⌝ }
-    requires { ⌜ length (now marks) ≡ sections ⌝ }
+        Forward (passTable format (now next) (now words)) (valuesOf (now channel) (now apriori))
+        start (format .sections) (now work) ⌝ }
+    requires { ⌜ length (now marks) ≡ format .sections ⌝ }
     requires { ⌜
-        Bests (tableOf states outputs (now next) (now words)) (valuesOf (now channel) (now apriori))
-        end sections start first (now margins) (now extrinsics) ⌝ }
-    requires { ⌜ (last ≡ true → Last (tableOf states outputs (now next) (now words)) end sections start) ⌝ }
+        Bests (passTable format (now next) (now words)) (valuesOf (now channel) (now apriori))
+        (format .end) (format .sections) start first (now margins) (now extrinsics) ⌝ }
+    requires { ⌜ (last ≡ true → Last (passTable format (now next) (now words)) (format .end) (format .sections) start) ⌝ }
     ensures { λ _. ⌜
         (last ≡ false → Bests
-        (tableOf states outputs (now (next .entry)) (now (words .entry)))
+        (passTable format (now (next .entry)) (now (words .entry)))
         (valuesOf (now (channel .entry)) (now (apriori .entry)))
-        end sections (start + 1) false (now (margins .exit)) (now (extrinsics .exit))) ⌝ }
+        (format .end) (format .sections) (start + 1) false (now (margins .exit)) (now (extrinsics .exit))) ⌝ }
     ensures { λ _. ⌜
         (last ≡ true → Written
-        (tableOf states outputs (now (next .entry)) (now (words .entry)))
+        (passTable format (now (next .entry)) (now (words .entry)))
         (valuesOf (now (channel .entry)) (now (apriori .entry)))
-        end sections (now (marks .exit)) (now (margins .exit)) (now (extrinsics .exit))) ⌝ }
+        (format .end) (format .sections) (now (marks .exit)) (now (margins .exit)) (now (extrinsics .exit))) ⌝ }
 {
+    let states = format.states;
+    let outputs = format.outputs;
+    let sections = format.sections;
+    let end = format.end;
     let sys = trellis::is_systematic(states, outputs, next, words);
-    let mut m = crate::metric::ending(end, start);
+    let mut m = metrics::ending(end, start);
     let mut left = sections;
     while 0 < left {
         let k = left - 1;

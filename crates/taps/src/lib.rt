@@ -7,7 +7,7 @@ mod checks;
 
 use refusal::Reply;
 
-// The table's next states and words. Nothing is written before every check is passed.
+// The next states and words of the table that the taps give, to `next` and `words`. Where it is refused, by 2 or 15, both are as they were.
 pub fn taps_table(
     memory: usize,
     feedback: u32,

@@ -5,7 +5,7 @@ ghost use Prim.Native.Nat.{_+_};
 ghost use lib.ListN.{length, getD, drop};
 ghost use Rattle.text.specs.Text.{cut, same as sameText};
 
-// Two texts are the same.
+// Whether two texts are the same, byte by byte. Both are only read.
 pub fn same(a: &[u8], b: &[u8]) -> bool
     ensures { λ r. ⌜ r ≡ sameText (now (a .entry)) (now (b .entry)) ⌝ }
 {
@@ -22,7 +22,7 @@ pub fn same(a: &[u8], b: &[u8]) -> bool
     true
 }
 
-// Where the byte next stands from `from` on, or the end of the text (or `from`, past the end).
+// Where the byte next stands from `from` on, or the end of the text (or `from`, past the end). The text is only read.
 pub fn next_at(text: &[u8], from: usize, byte: u8) -> usize
     ensures { λ r. ⌜ r ≡ from + length (getD (cut byte (drop from (now (text .entry)))) 0 []) ⌝ }
 {

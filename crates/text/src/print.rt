@@ -46,7 +46,7 @@ fn size(z: i32) -> u32
     }
 }
 
-// A number as the program prints it.
+// A number as the program prints it, in decimal: the bytes and how many of them count.
 pub fn decimal(z: i32) -> Digits
     ensures { λ r. ⌜ (digitsOf r ≡ decimalOf z) × (r .len ≤ 11) ⌝ }
 {

@@ -58,7 +58,7 @@ fn value(field: &[u8]) -> u32
     v
 }
 
-// The number that a field is, with no minus sign.
+// The number that a field is, with no minus sign, or that it is none. The field is only read.
 pub fn read_natural(field: &[u8]) -> Natural
     ensures { λ r. ⌜ naturalOf r ≡ naturalIn (now (field .entry)) ⌝ }
 {
@@ -82,7 +82,7 @@ fn opposite(field: &[u8]) -> Integer
     Integer::Is(0 - n as i32)
 }
 
-// The value that a field is.
+// The value that a field is, or that it is none. The field is only read.
 pub fn read_integer(field: &[u8]) -> Integer
     ensures { λ r. ⌜ integerOf r ≡ integerIn (now (field .entry)) ⌝ }
 {

@@ -2,16 +2,11 @@
 -- Assumes nothing.
 use borrow.Author.Needs.{needs}
 use borrow.Author.Tests.{not-false}
-use mathlib.Core.Path.{_≡_, refl, sym, ap, _∙_}
-use mathlib.Core.List.{List}
-use Prim.Native.Nat.{ℕ}
-use Rattle.trellis.specs.Table.{tableOf}
-use Rattle.trellis.specs.Path.{Values}
+use mathlib.Core.Path.{_≡_, refl, _∙_}
 use Rattle.siso.specs.Decode.{Call, Lent}
-use Rattle.siso.specs.Lent.{callOf, lentOf}
+use Rattle.siso.specs.Lent.{loneCallOf, loneLentOf}
 use Rattle.siso.specs.laws.Accepted.{Accepted, accepts}
-use Rattle.siso.specs.laws.Pass.{Pass}
-use Rattle.siso.specs.laws.Settled.{walked, decode-walked}
+use Rattle.siso.specs.laws.Settled.{decode-walked}
 use Rattle.butterfly.specs.laws.Tables.{IsButterfly}
 use Rattle.butterfly.proofs.decode.Statement.{statement}
 use Rattle.butterfly.proofs.decode.Tie as tie
@@ -20,28 +15,10 @@ use Rattle.butterfly.proofs.decode.Tie as tie
 
 abbrev call : tie.Start → Call
 call c =
-    callOf
-    (c .args .states)
-    (c .args .outputs)
-    (c .args .next .now)
-    (c .args .words .now)
-    (c .args .end)
-    (c .args .sections)
-    (c .args .channel .now)
-    (c .args .apriori .now)
+    loneCallOf (c .args .format) (c .args .next .now) (c .args .words .now) (c .args .channel .now) (c .args .apriori .now)
 
 abbrev lent : tie.Start → Lent
-lent c = lentOf (c .args .marks .now) (c .args .margins .now) (c .args .extrinsics .now) (c .args .work .now)
-
--- ---- two outputs
-
-butterfly-as : {states outputs : ℕ} {next words : List ℕ} → outputs ≡ 2 → IsButterfly states outputs next words → IsButterfly states 2 next words
-butterfly-as two b = rw two at b
-
-pass-as :
-    {states outputs n : ℕ} {next words : List ℕ} {v : Values} → outputs ≡ 2 → Pass (tableOf states outputs next words) n v
-    → Pass (tableOf states 2 next words) n v
-pass-as two p = rw two at p
+lent c = loneLentOf (c .args .marks .now) (c .args .margins .now) (c .args .extrinsics .now) (c .args .work .now)
 
 -- ---- a call that is not taken
 
@@ -72,20 +49,19 @@ module _ (c : tie.Else1) where
   abbrev start : tie.Start
   start = c .before .before .before .before .before
 
-  is : IsButterfly (start .args .states) (start .args .outputs) (start .args .next .now) (start .args .words .now)
+  is : IsButterfly (start .args .format .states) (start .args .format .outputs) (start .args .next .now) (start .args .words .now)
   is = c .before .takes .ensures (not-false _ (c .if1 .left)) .0
 
   taken : Accepted (call start) (lent start)
   taken =
-      c .before .takes .ensures (not-false _ (c .if1 .left)) .1 (start .args .end) (lent start)
+      c .before .takes .ensures (not-false _ (c .if1 .left)) .1 (lent start)
       (record { marks-sized = refl; margins-sized = refl; extrinsics-sized = refl; work-sized = refl })
 
 run-requires : tie.Need-run-requires
 run-requires c κs =
     let branch = c .before .before .before .before in
     let a = taken branch in
-    let two = is branch .two-outputs in
-    (butterfly-as two (is branch), (pass-as two (a .pass), (a .work-long, (a .marks-long, (a .margins-long, a .extrinsics-long)))))
+    (is branch, (a .pass, (a .work-long, (a .marks-long, (a .margins-long, a .extrinsics-long)))))
 
 same-length-5 : tie.Need-same-length-5
 same-length-5 c = search needs
@@ -103,15 +79,7 @@ returns-2 : tie.Need-returns-2
 returns-2 c =
     let ran = c .before .before .before .before .before in
     let branch = ran .before .before .before .before .before in
-    let s = start branch in
-    let args = s .args in
-    ran .run .ensures
-    ∙ ap
-    (λ outputs.
-    walked
-    (callOf (args .states) outputs (args .next .now) (args .words .now) (args .end) (args .sections) (args .channel .now) (args .apriori .now)) (lent s))
-    (sym (is branch .two-outputs))
-    ∙ decode-walked _ _ (accepts _ _ (taken branch))
+    ran .run .ensures ∙ decode-walked _ _ (accepts _ _ (taken branch))
 
 pub decode-spec : {M : Type 1} → statement M
 decode-spec =

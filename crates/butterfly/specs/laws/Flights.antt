@@ -13,7 +13,7 @@ use Rattle.trellis.specs.Path.{Values, branchMetric}
 use Rattle.trellis.specs.laws.Over.{over}
 use Rattle.trellis.specs.laws.Sweeps.{boundary, ending, forward, backward, reachFrom, meetFrom}
 use Rattle.siso.specs.Lent.{valuesOf}
-use Rattle.siso.specs.laws.Held.{row}
+use Rattle.metrics.specs.Words.{row}
 use Rattle.siso.specs.laws.Pass.{Pass, Forward, Bests}
 use Rattle.siso.specs.laws.Steps.{Agree}
 use Rattle.siso.proofs.Gathering.{LeftFrom}

@@ -16,7 +16,7 @@ use Rattle.trellis.specs.Path.{signed}
 use Rattle.trellis.specs.laws.MaxPlus.{plus}
 use Rattle.trellis.specs.laws.Over.{over}
 use Rattle.trellis.specs.laws.Sweeps.{Row, advance, retreat, passing}
-use Rattle.siso.specs.laws.Held.{held, row, rowAt}
+use Rattle.metrics.specs.Words.{held, row, rowAt}
 use Rattle.butterfly.specs.declared.step.Kind.{Kind}
 use Rattle.butterfly.specs.laws.Wings.{Wing, advance-even, advance-odd, retreat-near, retreat-far, straight, crossed, passes-zero, passes-one}
 

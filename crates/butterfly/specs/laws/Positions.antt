@@ -9,7 +9,7 @@ use lib.IntN.{ℤ, pos}
 use lib.ListN.{getD}
 use Rattle.trellis.specs.declared.Outcome.{Outcome}
 use Rattle.trellis.specs.Outcome.{outcomeOf, positionOf}
-use Rattle.siso.specs.laws.Held.{held}
+use Rattle.metrics.specs.Words.{held}
 use Rattle.siso.specs.laws.Told.{IsAt}
 
 -- the outcome that the words at k tell

@@ -59,6 +59,9 @@ returns-2 c =
     let unknown = sym (asked .end-of2 .ensures) ∙ c .before .before .enum-told2 .given .1 in
     rw (first-is (asked .before), unknown) (same-index (c .tell2 .ensures .0) (c .tell2 .ensures .1))
 
+frame-format-requires : tie.Need-frame-format-requires
+frame-format-requires c κs = search needs
+
 decode-requires : tie.Need-decode-requires
 decode-requires c κs = search needs
 
@@ -81,9 +84,10 @@ returns-3 : tie.Need-returns-3
 unfolding forEnding
 returns-3 c =
     let done = c .before .before .before .before .before .before .before in
-    let known = done .before .before .before .before .before in
+    let formatted = done .before .before .before .before .before in
+    let known = formatted .before in
     rw (first-is (first-known known), second-is known)
-    (same-index (c .tell3 .ensures .0) (c .tell3 .ensures .1) ∙ ap decodeReturned (done .decode .ensures))
+    (same-index (c .tell3 .ensures .0) (c .tell3 .ensures .1) ∙ ap decodeReturned (rw (formatted .frame-format .ensures) at (done .decode .ensures)))
 
 pub turbo-decode-spec : {M : Type 1} → statement M
 turbo-decode-spec =
@@ -99,6 +103,7 @@ turbo-decode-spec =
     enum-told-2
     tell-requires-2
     returns-2
+    frame-format-requires
     decode-requires
     tell-requires-3
     same-length

@@ -58,6 +58,9 @@ returns-2 c =
     let unknown = sym (c .before .before .before .end-of2 .ensures) ∙ c .before .enum-told2 .given .1 in
     rw (first-is (c .before .before .before .before), unknown) (same-number (c .number-of-refusal2 .ensures))
 
+frame-format-requires : tie.Need-frame-format-requires
+frame-format-requires c κs = search needs
+
 encode-requires : tie.Need-encode-requires
 encode-requires c κs = search needs
 
@@ -71,8 +74,10 @@ returns-3 : tie.Need-returns-3
 unfolding forEnding
 returns-3 c =
     let done = c .before .before .before in
-    let known = done .before .before in
-    rw (first-is (first-known known), second-is known) (same-number (c .number-of .ensures) ∙ ap encodeReturned (done .encode .ensures))
+    let formatted = done .before .before in
+    let known = formatted .before in
+    rw (first-is (first-known known), second-is known)
+    (same-number (c .number-of .ensures) ∙ ap encodeReturned (rw (formatted .frame-format .ensures) at (done .encode .ensures)))
 
 pub turbo-encode-spec : {M : Type 1} → statement M
 turbo-encode-spec =
@@ -88,6 +93,7 @@ turbo-encode-spec =
     enum-told-2
     number-of-refusal-requires-2
     returns-2
+    frame-format-requires
     encode-requires
     number-of-requires
     same-length

@@ -19,10 +19,11 @@ use Rattle.trellis.specs.Path.{aprioriAt}
 use Rattle.frame.specs.Interleaver.{place}
 use Rattle.frame.specs.laws.Interleaving.{Permutes}
 use Rattle.frame.specs.Frame.{Frame, sectionsOf}
-use Rattle.decoder.specs.Decoder.{handOver, decided, channel1, channel2, DecodeCall, DecodeLent, DecodeResult, decodeLentChecks, decode}
+use Rattle.soft.specs.Soft.{handOver, decided}
+use Rattle.decoder.specs.Decoder.{channel1, channel2, DecodeCall, DecodeLent, DecodeResult, decodeLentChecks, decode}
 use Rattle.decoder.specs.laws.Decodable.{Decodable, decodable}
 use Rattle.frame.specs.laws.Checked.{checked}
-use Rattle.demands.specs.Decoding.{Pass, marginAt, extrinsicAt, IsPass, patternAt, AreIterations, AreWritten, AreKept, BothPaths, EitherEmpty, IsDecoding}
+use Rattle.demands.specs.Decoding.{Pass, marginAt, extrinsicAt, IsPass, patternAt, AreIterations, FrameListsWritten, FrameListsKept, BothPaths, EitherEmpty, IsDecoding}
 use Rattle.demands.specs.laws.Outcomes.{means-one}
 use Rattle.demands.specs.laws.Replies.{frame-ways}
 use Rattle.demands.specs.laws.EveryDecoding.{every-decoding-means}
@@ -106,7 +107,7 @@ module _ (f : Frame) (w : Permutes (f .bits) (f .pattern)) where
   same-list z xs ys long also h =
       ext-getD z xs ys (long ∙ sym also) (λ x l. by-pattern (λ x. getD xs x z ≡ getD ys x z) h x (omega arith))
 
-  same-written : (p q : Pass) → Same f (f .second) p q → (x y : DecodeLent) → AreWritten f p x → AreWritten f q y → AreKept x y
+  same-written : (p q : Pass) → Same f (f .second) p q → (x y : DecodeLent) → FrameListsWritten f p x → FrameListsWritten f q y → FrameListsKept x y
   same-written p q same x y one other = record {
     bits = same-list 0 _ _ (other .bits-long) (one .bits-long) (λ k h. other .bit k h ∙ ap decided (sym (same-margin f (f .second) p q same k h)) ∙ sym (one .bit k h));
     margins =
@@ -119,38 +120,38 @@ module _ (f : Frame) (w : Permutes (f .bits) (f .pattern)) where
 -- ---- the whole call
 
 module _ (c : DecodeCall) (l : DecodeLent) (known : Decodable c l) (x y : DecodeResult) (one : IsDecoding c l x) (other : IsDecoding c l y) where
-  both-kept : (x .reply ≡ Done → ⊥) → (y .reply ≡ Done → ⊥) → AreKept (x .lists) (y .lists)
+  both-kept : (x .reply ≡ Done → ⊥) → (y .reply ≡ Done → ⊥) → FrameListsKept (x .lists) (y .lists)
   both-kept h g =
       let mine = one .kept h in
       let yours = other .kept g in
       record { bits = yours .bits ∙ sym (mine .bits); margins = yours .margins ∙ sym (mine .margins); extrinsics = yours .extrinsics ∙ sym (mine .extrinsics) }
 
-  both-written : x .reply ≡ Done → y .reply ≡ Done → AreKept (x .lists) (y .lists)
+  both-written : x .reply ≡ Done → y .reply ≡ Done → FrameListsKept (x .lists) (y .lists)
   both-written e f =
       let w = checked (c .frame) (known .framed) .permutes in
       let same = same-passes (c .frame) w _ (c .iterations) _ _ _ _ (one .iterations) (other .iterations) (c .iterations - 1)
       (omega (arith, known .some-iteration)) in
       same-written (c .frame) w _ _ same (x .lists) (y .lists) (one .written e) (other .written f)
 
-  same-replied : (x .reply ≡ y .reply) × AreKept (x .lists) (y .lists)
+  same-replied : (x .reply ≡ y .reply) × FrameListsKept (x .lists) (y .lists)
   same-replied = ⊎-elim without-path (⊎-elim with-forced free) (frame-ways (c .frame))
     where
       refused : {r : Reply} {n : Refusal} → r ≡ Refused n → r ≡ Done → ⊥
       refused e f = refused-is-not-done (sym e ∙ f)
 
-      without-path : (BothPaths (c .frame) → ⊥) → (x .reply ≡ y .reply) × AreKept (x .lists) (y .lists)
+      without-path : (BothPaths (c .frame) → ⊥) → (x .reply ≡ y .reply) × FrameListsKept (x .lists) (y .lists)
       without-path h =
           let e = one .no-path .1 h in
           let f = other .no-path .1 h in
           (e ∙ sym f, both-kept (refused e) (refused f))
 
-      with-forced : BothPaths (c .frame) × EitherEmpty (c .frame) → (x .reply ≡ y .reply) × AreKept (x .lists) (y .lists)
+      with-forced : BothPaths (c .frame) × EitherEmpty (c .frame) → (x .reply ≡ y .reply) × FrameListsKept (x .lists) (y .lists)
       with-forced h =
           let e = one .forced .1 h in
           let f = other .forced .1 h in
           (e ∙ sym f, both-kept (refused e) (refused f))
 
-      free : BothPaths (c .frame) × (EitherEmpty (c .frame) → ⊥) → (x .reply ≡ y .reply) × AreKept (x .lists) (y .lists)
+      free : BothPaths (c .frame) × (EitherEmpty (c .frame) → ⊥) → (x .reply ≡ y .reply) × FrameListsKept (x .lists) (y .lists)
       free h =
           let e = one .done .1 h in
           let f = other .done .1 h in

@@ -22,11 +22,12 @@ use Rattle.trellis.specs.laws.Emptiness.{outcome-is-free}
 use Rattle.frame.specs.Interleaver.{deinterleave}
 use Rattle.frame.specs.laws.Interleaving.{Permutes, interleave-at, deinterleave-at, interleave-length, deinterleave-length}
 use Rattle.frame.specs.Frame.{Frame, sectionsOf, tailOf, flags, spread}
-use Rattle.decoder.specs.Decoder.{handOver, decided, channel1, channel2, Soft, pass, handOn, handBack, handedOn, iteration, priorAfter, lastPass, decodedPass}
+use Rattle.soft.specs.Soft.{handOver, decided}
+use Rattle.decoder.specs.Decoder.{channel1, channel2, Soft, pass, handOn, handBack, handedOn, iteration, priorAfter, lastPass, decodedPass}
 use Rattle.decoder.specs.laws.Decodable.{decodable}
 use Rattle.frame.specs.laws.Checked.{checked}
 use Rattle.decoder.specs.Decoder.{DecodeCall, DecodeLent, decodeLentChecks, decodeSettled, decode}
-use Rattle.demands.specs.Decoding.{Pass, marginAt, extrinsicAt, IsPass, patternAt, AreIterations, AreWritten, EitherEmpty, IsDecoding}
+use Rattle.demands.specs.Decoding.{Pass, marginAt, extrinsicAt, IsPass, patternAt, AreIterations, FrameListsWritten, EitherEmpty, IsDecoding}
 use Rattle.demands.specs.laws.Outcomes.{outcome-means, margin-written, extrinsic-written}
 use Rattle.refusal.specs.laws.Kept.{after-done}
 use Rattle.demands.specs.laws.Replies.{unforced, decode-says, decode-clears, decode-keeps}
@@ -144,7 +145,7 @@ module _ (f : Frame) (r : List ℤ) (w : Permutes (f .bits) (f .pattern)) where
   lists-written : (n : ℕ) (l : DecodeLent) → ((k : ℕ) → k < f .bits → forced (f .table) (f .second) (sectionsOf f (f .second)) k ≡ false) →
       l .bits ≡ deinterleave 0 (f .pattern) (map decided (decodedPass f r n .margins)) →
       l .margins ≡ deinterleave (pos 0) (f .pattern) (decodedPass f r n .margins) →
-      l .extrinsics ≡ deinterleave (pos 0) (f .pattern) (decodedPass f r n .extrinsics) → AreWritten f (secondPass (n - 1)) l
+      l .extrinsics ≡ deinterleave (pos 0) (f .pattern) (decodedPass f r n .extrinsics) → FrameListsWritten f (secondPass (n - 1)) l
   unfolding lastPass iteration patternAt secondPass decided
   lists-written n l free bits margins extrinsics =
       let a = handedOn f (channel1 f r) (prior (n - 1)) in
@@ -171,7 +172,7 @@ module _ (c : DecodeCall) (l : DecodeLent) where
   values = spread (pos 0) (flags (c .frame)) (c .received)
 
   last-written : (w : Permutes (c .frame .bits) (c .frame .pattern)) → (EitherEmpty (c .frame) → ⊥) → decode c l .reply ≡ Done →
-      AreWritten (c .frame) (secondPass (c .frame) values w (c .iterations - 1)) (decode c l .lists)
+      FrameListsWritten (c .frame) (secondPass (c .frame) values w (c .iterations - 1)) (decode c l .lists)
   unfolding decode decodeSettled
   last-written w h e =
       lists-written (c .frame) values w (c .iterations) (decode c l .lists) (unforced (c .frame) (c .frame .second) (λ e. h (inr e))) (after-done e _ _) (after-done e _ _) (after-done e _ _)

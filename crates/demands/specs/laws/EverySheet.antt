@@ -12,7 +12,7 @@ use borrow.Author.Tests.{not-false}
 use Rattle.lists.specs.Lists.{firstFailing, found}
 use Rattle.lists.specs.laws.Listed.{listed-length}
 use Rattle.refusal.specs.declared.Refusal.{Refusal}
-use Rattle.refusal.specs.declared.Refusal.the-variants.{Text, Value, Pattern}
+use Rattle.refusal.specs.declared.Refusal.the-variants.{Text, ValueInLine, Pattern}
 use Rattle.refusal.specs.declared.Reply.{Reply}
 use Rattle.refusal.specs.declared.Reply.the-variants.{Done, Refused}
 use Rattle.refusal.specs.Refusals.{told, check, _then_, firstOf}
@@ -20,22 +20,23 @@ use Rattle.refusal.specs.laws.InTurn.{first-is-reply, done-exactly, both-done, 
 use Rattle.trellis.specs.Limits.{channelFits}
 use Rattle.frame.specs.Interleaver.{permutes}
 use Rattle.decoder.specs.Decoder.{DecodeResult, decodeLentChecks, decodePathChecks, decodeChecks, decodeSettled, decode}
-use Rattle.sheet.specs.Sheet.{messageBits, messageAt, valuesOf, rowValues, loudLine, firstFault, faultLine, sizeFits, textChecks, sheetChecks, callOf, lentFor, refusalText, resultText, printed, answer}
-use Rattle.sheet.specs.laws.Loud.{loud-first, rows-count}
+use Rattle.rows.specs.Lines.{messageBits, firstFault, faultLine, sizeFits, textChecks}
+use Rattle.sheet.specs.Sheet.{messageAt, valuesOf, rowValues, valueLine, sheetChecks, sheetCallOf, lentFor, refusalText, resultText, printed, answer}
+use Rattle.sheet.specs.laws.Range.{value-line-first, rows-count}
 use Rattle.sheet.specs.laws.Answers.{sheet-reply, frame-reply, result-long, result-feeds}
-use Rattle.demands.specs.Answered.{sheetRules, IsFaultyLine, IsFaultless, IsLoudLine, IsResult, IsAnswer}
+use Rattle.demands.specs.Answered.{sheetRules, IsFaultyLine, IsFaultless, IsValueLine, IsResult, IsAnswer}
 use Rattle.demands.specs.laws.EveryDecoding.{every-decoding-means}
 use Rattle.demands.specs.laws.FaultyLines.{faulty-line, faultless-lines}
 use Rattle.demands.specs.laws.Determined.{decoding-exactly}
 
 module _ (sheet : List ℕ) where
   abbrev frame-result : DecodeResult
-  frame-result = decode (callOf sheet) (lentFor sheet)
+  frame-result = decode (sheetCallOf sheet) (lentFor sheet)
 
   -- ---- the answer by the rules
 
   reply-by-rules : firstOf (sheetChecks sheet) ≡ firstOf (sheetRules sheet)
-  unfolding sheetRules textChecks callOf
+  unfolding sheetRules textChecks sheetCallOf
   reply-by-rules = sheet-reply sheet
 
   answer-by-rules : (r : Reply) → firstOf (sheetRules sheet) ≡ r → answer sheet ≡ printed r (frame-result .lists)
@@ -53,15 +54,15 @@ module _ (sheet : List ℕ) where
   -- ---- decoded
 
   module _ (unbroken : firstOf (sheetRules sheet) ≡ Done) where
-    frame-done : firstOf (decodeChecks (callOf sheet) (lentFor sheet)) ≡ Done
-    unfolding sheetRules textChecks callOf Each
+    frame-done : firstOf (decodeChecks (sheetCallOf sheet) (lentFor sheet)) ≡ Done
+    unfolding sheetRules textChecks sheetCallOf Each
     frame-done =
         let (sized, (faultless, (inside, (permuted, end)))) = each-holds (sheetRules sheet) unbroken in
         frame-reply sheet (each-done (textChecks sheet) (sized, (faultless, tt))) ∙ each-done _ (inside, (permuted, tt))
 
-    frame-passes : firstOf (decodeLentChecks (callOf sheet) (lentFor sheet)) ≡ Done
+    frame-passes : firstOf (decodeLentChecks (sheetCallOf sheet) (lentFor sheet)) ≡ Done
     unfolding decodeChecks
-    frame-passes = both-done (decodeLentChecks (callOf sheet) (lentFor sheet)) (decodePathChecks (callOf sheet .frame)) frame-done .0
+    frame-passes = both-done (decodeLentChecks (sheetCallOf sheet) (lentFor sheet)) (decodePathChecks (sheetCallOf sheet .frame)) frame-done .0
 
     frame-replied : frame-result .reply ≡ Done
     unfolding decode decodeSettled
@@ -69,8 +70,8 @@ module _ (sheet : List ℕ) where
 
     -- a line for each message position
     all-lines : length (frame-result .lists .bits) ≡ messageBits sheet
-    unfolding callOf
-    all-lines = result-long (callOf sheet) (lentFor sheet) frame-replied ∙ listed-length (λ k. messageAt sheet k .to) (messageBits sheet)
+    unfolding sheetCallOf
+    all-lines = result-long (sheetCallOf sheet) (lentFor sheet) frame-replied ∙ listed-length (λ k. messageAt sheet k .to) (messageBits sheet)
 
     no-fault : IsFaultless sheet
     unfolding sheetRules Each found
@@ -86,7 +87,7 @@ module _ (sheet : List ℕ) where
       unbroken = done-exactly (sheetRules sheet) .0 unbroken;
       faultless = no-fault;
       result = frame-result;
-      decoding = every-decoding-means (callOf sheet) (lentFor sheet) frame-passes;
+      decoding = every-decoding-means (sheetCallOf sheet) (lentFor sheet) frame-passes;
       done = frame-replied;
       whole = rw all-lines at (answer-decoded unbroken);
       line-feeds = rw (answer-decoded unbroken) (result-feeds (frame-result .lists) ∙ ap (λ (k : ℕ). k + 1) all-lines);
@@ -95,10 +96,10 @@ module _ (sheet : List ℕ) where
   -- ---- refused
 
   -- where a value is outside its limits
-  loud-line : channelFits (valuesOf sheet) ≡ false → IsLoudLine sheet (loudLine sheet)
-  unfolding loudLine
-  loud-line e =
-      let first = loud-first sheet e in
+  value-line-is : channelFits (valuesOf sheet) ≡ false → IsValueLine sheet (valueLine sheet)
+  unfolding valueLine
+  value-line-is e =
+      let first = value-line-first sheet e in
       record {
         row = firstFailing channelFits (rowValues sheet);
         in-sheet = omega (arith, first .in-list, rows-count sheet);
@@ -117,10 +118,10 @@ module _ (sheet : List ℕ) where
       go (some i) is h = faulty-line sheet i is
 
   refused : (r : Refusal) → firstOf (sheetRules sheet) ≡ Refused r → ((line : ℕ) → r ≡ Text line → line ≢ 0 → IsFaultyLine sheet line) →
-      ((line : ℕ) → r ≡ Value line → IsLoudLine sheet line) → IsAnswer sheet (answer sheet)
+      ((line : ℕ) → r ≡ ValueInLine line → IsValueLine sheet line) → IsAnswer sheet (answer sheet)
   unfolding IsAnswer refusalText
-  refused r e faulty loud =
-      inl (record { refusal = r; first = first-is-reply (sheetRules sheet) .refused r .0 e; faulty = faulty; loud = loud; whole = answer-refused r e })
+  refused r e faulty value =
+      inl (record { refusal = r; first = first-is-reply (sheetRules sheet) .refused r .0 e; faulty = faulty; value = value; whole = answer-refused r e })
 
   -- ---- by the rules
 
@@ -128,7 +129,7 @@ module _ (sheet : List ℕ) where
   told-apart h e = h (ap (λ (x : Refusal). told x .number) e)
 
   tested : (a b c d : Bool) → sizeFits sheet ≡ a → not (found (firstFault sheet)) ≡ b → channelFits (valuesOf sheet) ≡ c →
-      permutes (messageBits sheet) (callOf sheet .frame .pattern) ≡ d → IsAnswer sheet (answer sheet)
+      permutes (messageBits sheet) (sheetCallOf sheet .frame .pattern) ≡ d → IsAnswer sheet (answer sheet)
   unfolding sheetRules firstOf check _then_ told
   tested false b c d ea eb ec ed =
       refused (Text 0) (rw ea refl) (λ line is some. absurd (some (sym (ap (λ (x : Refusal). told x .place) is))))
@@ -138,8 +139,8 @@ module _ (sheet : List ℕ) where
       (λ line is some. subst (IsFaultyLine sheet) (ap (λ (x : Refusal). told x .place) is) (told-line eb))
       (λ line is. absurd (told-apart (λ n. omega arith) is))
   tested true true false d ea eb ec ed =
-      refused (Value (loudLine sheet)) (rw (ea, eb, ec) refl) (λ line is some. absurd (told-apart (λ n. omega arith) is))
-      (λ line is. subst (IsLoudLine sheet) (ap (λ (x : Refusal). told x .place) is) (loud-line ec))
+      refused (ValueInLine (valueLine sheet)) (rw (ea, eb, ec) refl) (λ line is some. absurd (told-apart (λ n. omega arith) is))
+      (λ line is. subst (IsValueLine sheet) (ap (λ (x : Refusal). told x .place) is) (value-line-is ec))
   tested true true true false ea eb ec ed =
       refused Pattern (rw (ea, eb, ec, ed) refl) (λ line is some. absurd (told-apart (λ n. omega arith) is)) (λ line is. absurd (told-apart (λ n. omega arith) is))
   tested true true true true ea eb ec ed = unfold IsAnswer in inr (is-result (rw (ea, eb, ec, ed) refl))
@@ -154,7 +155,7 @@ same-text : (sheet text : List ℕ) → IsResult sheet text → text ≡ answer 
 unfolding resultText
 same-text sheet text h =
     let e = done-exactly (sheetRules sheet) .1 (h .unbroken) in
-    let same = decoding-exactly (callOf sheet) (lentFor sheet) (frame-passes sheet e) (h .result) .0 (h .decoding) in
+    let same = decoding-exactly (sheetCallOf sheet) (lentFor sheet) (frame-passes sheet e) (h .result) .0 (h .decoding) in
     rw (← all-lines sheet e, same) at (h .whole) ∙ sym (answer-decoded sheet e)
 
 -- the answer is the only text that the statement allows

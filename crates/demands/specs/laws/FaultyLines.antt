@@ -11,7 +11,7 @@ use native.Mathlib.Nat.{add-zero}
 use native.Mathlib.Omega.{arith}
 use lib.ListN.{length, getD}
 use Rattle.lists.specs.Lists.{isEmpty}
-use Rattle.sheet.specs.Sheet.{linesOf, lastPiece, messageBits, lineFits, faultFrom, firstFault}
+use Rattle.rows.specs.Lines.{linesOf, lastPiece, messageBits, lineFits, faultFrom, firstFault}
 use Rattle.demands.specs.Answered.{IsFaultyLine, IsFaultless}
 
 -- of lines counted from `from`, number i is the first that breaks the rules

@@ -14,8 +14,8 @@ use Rattle.trellis.specs.Path.{signed}
 use Rattle.trellis.specs.laws.Signs.{signed-zero}
 use Rattle.frame.specs.Interleaver.{place, interleave, deinterleave}
 use Rattle.frame.specs.laws.Interleaving.{Permutes, interleave-at, interleave-length, deinterleave-at, deinterleave-length}
-use Rattle.decoder.specs.Decoder.{handOver, decided}
-use Rattle.decoder.specs.laws.HandOver.{handed-keeps-sign, decided-is}
+use Rattle.soft.specs.Soft.{handOver, decided}
+use Rattle.soft.specs.laws.HandOver.{handed-keeps-sign, decided-is}
 
 -- K values, each of which has its bit's sign or is 0
 pub record Leans (k : ℕ) (bits : List ℕ) (a : List ℤ) : Type 0 where

@@ -27,11 +27,11 @@ use Rattle.frame.specs.laws.Checked.{Framed}
 use Rattle.decoder.specs.Decoder.{pass}
 use Rattle.demands.specs.Coded.{IsCoderPath}
 use Rattle.demands.specs.laws.RightPass.{extrinsic-signed, margin-signed}
-use Rattle.demands.specs.laws.Heard.{ChannelAgrees, input-at}
+use Rattle.demands.specs.laws.RightPlaces.{ChannelAgrees, input-at}
 use Rattle.demands.specs.laws.Leaning.{Leans, Tells, zero-leans}
 
 module _ (f : Frame) (framed : Framed f) {end : End} {inputs : List ℕ} {path : TrellisPath} (coder : IsCoderPath f end inputs path) {channel : List ℤ}
-    (heard : ChannelAgrees f end path channel) {a : List ℤ} (told : Leans (f .bits) inputs a) where
+    (correct : ChannelAgrees f end path channel) {a : List ℤ} (told : Leans (f .bits) inputs a) where
   abbrev zeros : List ℤ
   zeros = replicate (tailOf end (f .tail)) (pos 0)
 
@@ -60,7 +60,7 @@ module _ (f : Frame) (framed : Framed f) {end : End} {inputs : List ℕ} {path :
   unfolding aprioriAt
   right = record {
     path = coder .is-path;
-    agrees = λ k h. record { apriori = apriori-leans k h; channel = λ l g. rw (channel-is k l) (heard .agrees k l h (omega (arith, two-outputs))) };
+    agrees = λ k h. record { apriori = apriori-leans k h; channel = λ l g. rw (channel-is k l) (correct .agrees k l h (omega (arith, two-outputs))) };
   }
 
   pub extrinsics-lean : Leans (f .bits) inputs (pass f end channel a .extrinsics)

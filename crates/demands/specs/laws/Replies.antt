@@ -25,7 +25,7 @@ use Rattle.decoder.specs.Decoder.{DecodeCall, DecodeLent, decodeLentChecks, bot
 use Rattle.decoder.specs.laws.Settled.{walked-clears}
 use Rattle.refusal.specs.laws.Kept.{after-refusal}
 use Rattle.demands.specs.laws.Told.{Tells, path-told, class-empty}
-use Rattle.demands.specs.Decoding.{AreKept, BothPaths, SomeEmpty, EitherEmpty}
+use Rattle.demands.specs.Decoding.{FrameListsKept, BothPaths, SomeEmpty, EitherEmpty}
 
 -- ---- paths and classes
 
@@ -152,6 +152,6 @@ module _ (c : DecodeCall) (l : DecodeLent) (passed : firstOf (decodeLentChecks c
   decode-clears = rw (first-passes (decodeLentChecks c l) (decodePathChecks (c .frame)) passed) (walked-clears (c .frame) (l .work))
 
 -- any refusal keeps the result lists
-pub decode-keeps : (c : DecodeCall) (l : DecodeLent) → (decode c l .reply ≡ Done → ⊥) → AreKept l (decode c l .lists)
+pub decode-keeps : (c : DecodeCall) (l : DecodeLent) → (decode c l .reply ≡ Done → ⊥) → FrameListsKept l (decode c l .lists)
 unfolding decode decodeSettled
 decode-keeps c l h = record { bits = after-refusal h _ _; margins = after-refusal h _ _; extrinsics = after-refusal h _ _ }

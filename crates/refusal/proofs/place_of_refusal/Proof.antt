@@ -7,7 +7,7 @@ use denote.Enum.Declared.{tagOf}
 use types.Run.{OneOf, miss}
 use borrow.Author.Needs.{needs}
 use Rattle.refusal.specs.declared.Refusal.{Refusal}
-use Rattle.refusal.specs.declared.Refusal.the-variants.{Text, Shape, Polynomial, Branch, Length, Lists, Value, Apriori, Bit, Pattern, Mask, Iterations, Coder, NoPath, ForcedPosition, NoTail}
+use Rattle.refusal.specs.declared.Refusal.the-variants.{Text, Shape, Polynomial, Branch, Length, Lists, Value, ValueInLine, Apriori, Bit, Pattern, Mask, Iterations, Coder, NoPath, ForcedPosition, NoTail}
 use Rattle.refusal.specs.Refusals.{told}
 use Rattle.refusal.proofs.Refusal.{the-type}
 use Rattle.refusal.proofs.place_of_refusal.Statement.{statement}
@@ -15,7 +15,7 @@ use Rattle.refusal.proofs.place_of_refusal.Tie as tie
 
 -- the refusals that name no place
 abbrev others : List ℕ
-others = 1 ∷ 2 ∷ 3 ∷ 4 ∷ 5 ∷ 8 ∷ 9 ∷ 10 ∷ 11 ∷ 12 ∷ 13 ∷ 14 ∷ 15 ∷ []
+others = 1 ∷ 2 ∷ 3 ∷ 4 ∷ 5 ∷ 9 ∷ 10 ∷ 11 ∷ 12 ∷ 13 ∷ 14 ∷ 15 ∷ 16 ∷ []
 
 placeless : (r : Refusal) → OneOf others (tagOf the-type r) → 0 ≡ told r .place
 unfolding told
@@ -25,8 +25,9 @@ placeless Polynomial h = refl
 placeless Branch h = refl
 placeless Length h = refl
 placeless Lists h = refl
-placeless (Value place) h = absurd (miss others 6 tt h)
-placeless (Apriori index) h = absurd (miss others 7 tt h)
+placeless (Value index) h = absurd (miss others 6 tt h)
+placeless (ValueInLine line) h = absurd (miss others 7 tt h)
+placeless (Apriori index) h = absurd (miss others 8 tt h)
 placeless Bit h = refl
 placeless Pattern h = refl
 placeless Mask h = refl
@@ -45,6 +46,9 @@ enum-known-why-2 c = search needs
 enum-known-why-3 : tie.Need-enum-known-why-3
 enum-known-why-3 c = search needs
 
+enum-known-why-4 : tie.Need-enum-known-why-4
+enum-known-why-4 c = search needs
+
 returns : tie.Need-returns
 unfolding told
 returns c = rw (c .before .why .given .1)
@@ -58,9 +62,13 @@ unfolding told
 returns-3 c = rw (c .before .why3 .given .1)
 
 returns-4 : tie.Need-returns-4
-returns-4 c = placeless _ (c .match .keys4)
+unfolding told
+returns-4 c = rw (c .before .why4 .given .1)
+
+returns-5 : tie.Need-returns-5
+returns-5 c = placeless _ (c .match .keys5)
 
 pub place-of-refusal-spec : {M : Type 1} → statement M
 place-of-refusal-spec =
     tie.close
-    (tie.spec enum-known-why enum-known-why-2 enum-known-why-3 returns returns-2 returns-3 returns-4)
+    (tie.spec enum-known-why enum-known-why-2 enum-known-why-3 enum-known-why-4 returns returns-2 returns-3 returns-4 returns-5)

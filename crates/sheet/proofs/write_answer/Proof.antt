@@ -1,21 +1,16 @@
 -- `write_answer` meets its contract: the text's refusal, or the answer to a sheet whose text fits.
 -- Assumes nothing.
 use mathlib.Core.Path.{_≡_, sym, _∙_}
-use native.Mathlib.Omega.{arith}
 use borrow.Author.Needs.{needs}
 use Rattle.refusal.specs.Refusals.{told, placeOf, firstOf}
 use Rattle.refusal.specs.declared.Reply.the-variants.{Done}
-use Rattle.sheet.specs.Sheet.{textChecks}
-use Rattle.sheet.specs.laws.Fitting.{Fitting, fitting}
+use Rattle.rows.specs.Lines.{textChecks}
 use Rattle.sheet.specs.laws.Decoding.{answer-refused}
 use Rattle.sheet.proofs.write_answer.Statement.{statement}
 use Rattle.sheet.proofs.write_answer.Tie as tie
 
 is-done : (c : tie.After-enum-told) → firstOf (textChecks (c .before .before .before .before .before .args .sheet .now)) ≡ Done
 is-done c = sym (c .before .before .text-reply .ensures .0) ∙ c .enum-told .given .1
-
-fits : (c : tie.After-enum-told) → Fitting (c .before .before .before .before .before .args .sheet .now)
-fits c = fitting _ (is-done c)
 
 text-reply-requires : tie.Need-text-reply-requires
 text-reply-requires c κs = search needs
@@ -44,18 +39,15 @@ returns c =
 enum-told : tie.Need-enum-told
 enum-told c = search needs
 
-pieces-requires : tie.Need-pieces-requires
-pieces-requires c κs = search needs
-
-sub-k : tie.Need-sub-k
-sub-k c = let fit = fits (c .before .before) in omega (arith, fit .cut-long, c .before .pieces .ensures .counted)
+message-bits-requires : tie.Need-message-bits-requires
+message-bits-requires c κs = search needs
 
 decode-sheet-requires : tie.Need-decode-sheet-requires
 decode-sheet-requires c κs =
-    let known = c .before in
-    let done = known .before .before in
+    let counted = c .before in
+    let done = counted .before in
     let start = done .before .before .before .before .before in
-    (start .pre, (is-done done, omega (arith, fits done .cut-long, known .before .pieces .ensures .counted)))
+    (start .pre, (is-done done, counted .message-bits .ensures))
 
 same-length-2 : tie.Need-same-length-2
 same-length-2 c = search needs
@@ -73,8 +65,7 @@ write-answer-spec =
     same-length
     returns
     enum-told
-    pieces-requires
-    sub-k
+    message-bits-requires
     decode-sheet-requires
     same-length-2
     returns-2)

@@ -12,20 +12,17 @@ use lib.ListN.{length, getD, take, set, length-set}
 use lib.Seq.{take-suc-set}
 use Rattle.lists.specs.Lists.{joined}
 use Rattle.text.specs.Text.{cut}
-use Rattle.sheet.specs.declared.Message.{Message}
-use Rattle.sheet.specs.declared.Tail.{Tail}
-use Rattle.sheet.specs.Rows.{MessageRow, TailRow, messageRow, tailRow}
-use Rattle.sheet.specs.Sheet.{linesOf, messageBits, messageAt, tailAt, messageValues, valuesOf}
-use Rattle.sheet.specs.laws.Pieces.{front-at}
-use Rattle.sheet.specs.laws.Reading.{heard, messageShown, tailShown}
+use Rattle.rows.specs.declared.Message.{Message}
+use Rattle.rows.specs.declared.Tail.{Tail}
+use Rattle.rows.specs.Rows.{MessageRow, TailRow, messageRow, tailRow}
+use Rattle.rows.specs.Lines.{linesOf, messageBits}
+use Rattle.rows.specs.Lent.{receivedValue, messageShown, tailShown, tailIn}
+use Rattle.rows.specs.laws.Pieces.{front-at}
+use Rattle.sheet.specs.Sheet.{messageAt, tailAt, messageValues, valuesOf}
 
 -- the values of both tails, from the two tail rows
 abbrev pub bothTails : Tail → Tail → List ℤ
 bothTails a b = a .sys ∷ a .par ∷ b .sys ∷ b .par ∷ a .sys2 ∷ a .par2 ∷ b .sys2 ∷ b .par2 ∷ []
-
--- row k as a tail row
-unfoldable pub tailIn : List ℕ → ℕ → Tail
-tailIn sheet k = tailShown (tailRow k (getD (cut 10 sheet) (k + 1) []))
 
 -- the values of every place, K being k
 unfoldable pub valuesTo : List ℕ → ℕ → List ℤ
@@ -65,32 +62,32 @@ unfolding linesOf
 row-line sheet k n long h = rw (← add-one k) (sym (front-at (cut 10 sheet) (k + 1) [] (omega arith)))
 
 -- what a message row that is read says
-pub record Said (sheet : List ℕ) (k : ℕ) (m : Message) : Type 0 where
+pub record MessageRead (sheet : List ℕ) (k : ℕ) (m : Message) : Type 0 where
   pub to-is : m .to ≡ messageAt sheet k .to
   pub values-are : (m .sys ∷ m .par ∷ m .par2 ∷ []) ≡ messageValues sheet k
 
-said : (o : Option MessageRow) →
+message-shown : (o : Option MessageRow) →
     let m = Option·getD o (record { to = 0; sys = none; par = none; par2 = none }) in
     (messageShown o .to ≡ m .to)
-    × ((messageShown o .sys ∷ messageShown o .par ∷ messageShown o .par2 ∷ []) ≡ (heard (m .sys) ∷ heard (m .par) ∷ heard (m .par2) ∷ []))
+    × ((messageShown o .sys ∷ messageShown o .par ∷ messageShown o .par2 ∷ []) ≡ (receivedValue (m .sys) ∷ receivedValue (m .par) ∷ receivedValue (m .par2) ∷ []))
 unfolding messageShown
-said none = (refl, refl)
-said (some m) = (refl, refl)
+message-shown none = (refl, refl)
+message-shown (some m) = (refl, refl)
 
-pub message-said : (sheet line : List ℕ) (k n : ℕ) (m : Message) → length (cut 10 sheet) ≡ n + 4 → k < n →
-    line ≡ getD (cut 10 sheet) (k + 1) [] → m ≡ messageShown (messageRow k line) → Said sheet k m
+pub message-read : (sheet line : List ℕ) (k n : ℕ) (m : Message) → length (cut 10 sheet) ≡ n + 4 → k < n →
+    line ≡ getD (cut 10 sheet) (k + 1) [] → m ≡ messageShown (messageRow k line) → MessageRead sheet k m
 unfolding messageAt
-message-said sheet line k n m long h e f =
+message-read sheet line k n m long h e f =
     let row = messageRow k (getD (linesOf sheet) (suc k) []) in
     let g : m ≡ messageShown row = f ∙ ap (λ (l : List ℕ). messageShown (messageRow k l)) (e ∙ row-line sheet k n long (omega arith)) in
-    record { to-is = rw g (said row .0); values-are = rw g (said row .1) }
+    record { to-is = rw g (message-shown row .0); values-are = rw g (message-shown row .1) }
 
-tail-said : (o : Option TailRow) →
+tail-shown : (o : Option TailRow) →
     let t = Option·getD o (record { sys = pos 0; par = pos 0; par2 = pos 0; sys2 = pos 0 }) in
     (tailShown o .sys ≡ t .sys) × (tailShown o .par ≡ t .par) × (tailShown o .par2 ≡ t .par2) × (tailShown o .sys2 ≡ t .sys2)
 unfolding tailShown
-tail-said none = (refl, refl, refl, refl)
-tail-said (some t) = (refl, refl, refl, refl)
+tail-shown none = (refl, refl, refl, refl)
+tail-shown (some t) = (refl, refl, refl, refl)
 
 tail-in : (sheet : List ℕ) (j : ℕ) → length (cut 10 sheet) ≡ messageBits sheet + 4 → j < 2 →
     (tailIn sheet (messageBits sheet + j) .sys ≡ tailAt sheet j .sys) × (tailIn sheet (messageBits sheet + j) .par ≡ tailAt sheet j .par)
@@ -98,7 +95,7 @@ tail-in : (sheet : List ℕ) (j : ℕ) → length (cut 10 sheet) ≡ messageBits
 unfolding tailIn tailAt
 tail-in sheet j long h =
     rw (row-line sheet (messageBits sheet + j) (messageBits sheet) long (omega arith))
-    (tail-said (tailRow (messageBits sheet + j) (getD (linesOf sheet) (suc (messageBits sheet + j)) [])))
+    (tail-shown (tailRow (messageBits sheet + j) (getD (linesOf sheet) (suc (messageBits sheet + j)) [])))
 
 pub values-all : (sheet : List ℕ) → length (cut 10 sheet) ≡ messageBits sheet + 4 → valuesTo sheet (messageBits sheet) ≡ valuesOf sheet
 unfolding valuesTo valuesOf joined

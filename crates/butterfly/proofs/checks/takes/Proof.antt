@@ -1,21 +1,22 @@
--- `checks::takes` tells that a table is a butterfly and that the call passes every check, whatever its end.
+-- `checks::takes` tells that a table is a butterfly and that the call passes every check.
 -- Assumes nothing.
 use borrow.Author.Needs.{needs}
-use borrow.Author.Tests.{le-leb, not-false}
-use mathlib.Core.Path.{_≡_, sym, ap, _∙_}
-use mathlib.Core.Bool.{true, false≢true}
+use borrow.Author.Tests.{eqb-true, not-false}
+use mathlib.Core.Path.{_≡_, sym, _∙_}
+use mathlib.Core.Bool.{true, _&&_, false≢true}
 use mathlib.Core.List.{[], _∷_}
-use Prim.Native.Nat.{_*_}
-use native.Mathlib.Omega.{arith}
+use Prim.Native.Nat.{_+_, _*_}
+use lib.Dec.{eqb, leb}
 use lib.ListN.{length}
-use Rattle.lists.specs.laws.Tests.{and-true}
+use Rattle.lists.specs.laws.Tests.{and-both}
 use Rattle.refusal.specs.laws.Checks.{then-is-done}
 use Rattle.refusal.specs.laws.InTurn.{Each, each-holds}
-use Rattle.trellis.specs.Table.{tableOf, tableChecks}
+use Rattle.trellis.specs.Table.{tableChecks}
 use Rattle.trellis.specs.Limits.{sectionsFit, channelCheck, aprioriCheck}
-use Rattle.siso.specs.Lent.{valuesOf}
-use Rattle.siso.specs.laws.Pass.{Pass}
-use Rattle.butterfly.specs.laws.Calls.{Fitting}
+use Rattle.siso.specs.Decode.{Lent}
+use Rattle.siso.specs.Lent.{valuesOf, passTable, loneCallOf}
+use Rattle.siso.specs.laws.Accepted.{Accepted}
+use Rattle.siso.specs.laws.Pass.{Pass, Sized}
 use Rattle.butterfly.specs.laws.Tables.{IsButterfly}
 use Rattle.butterfly.proofs.checks.takes.Statement.{statement}
 use Rattle.butterfly.proofs.checks.takes.Tie as tie
@@ -26,48 +27,20 @@ is-butterfly-requires c κs = search needs
 returns : tie.Need-returns
 returns c e = absurd (false≢true e)
 
+lists-fit-requires : tie.Need-lists-fit-requires
+lists-fit-requires c κs = search needs
+
 returns-2 : tie.Need-returns-2
 returns-2 c e = absurd (false≢true e)
-
-returns-3 : tie.Need-returns-3
-returns-3 c e = absurd (false≢true e)
-
--- ---- what the tests have told
-
-module _ (c : tie.Else3) where
-  abbrev asked : tie.After-is-butterfly
-  asked = c .before .before .before
-
-  abbrev start : tie.Start
-  start = asked .before .before .before
-
-  is : IsButterfly (start .args .states) (start .args .outputs) (start .args .next .now) (start .args .words .now)
-  is = asked .is-butterfly .ensures (not-false _ (c .before .before .if1 .left))
-
-  sections-fit : sectionsFit (start .args .sections) ≡ true
-  unfolding sectionsFit
-  sections-fit = and-true (le-leb 1 _ (c .before .if2 .left)) (le-leb _ _ (c .if3 .left))
-
-lists-fit-requires : tie.Need-lists-fit-requires
-lists-fit-requires c κs = (omega (arith, is c .steps .halves, is c .steps .few), c .if3 .left)
-
-returns-4 : tie.Need-returns-4
-returns-4 c e = absurd (false≢true e)
 
 table-reply-requires : tie.Need-table-reply-requires
 table-reply-requires c κs = search needs
 
-channel-reply-requires : tie.Need-channel-reply-requires
-channel-reply-requires c κs = search needs
-
-apriori-reply-requires : tie.Need-apriori-reply-requires
-apriori-reply-requires c κs = search needs
+values-reply-requires : tie.Need-values-reply-requires
+values-reply-requires c κs = search needs
 
 first-of-requires : tie.Need-first-of-requires
 first-of-requires c κs = search needs
-
-first-of-requires-2 : tie.Need-first-of-requires-2
-first-of-requires-2 c κs = search needs
 
 enum-told : tie.Need-enum-told
 enum-told c = search needs
@@ -75,61 +48,63 @@ enum-told c = search needs
 enum-told-2 : tie.Need-enum-told-2
 enum-told-2 c = search needs
 
--- ---- what the replies have told
+-- ---- what the tests and the replies have told
 
 module _ (c : tie.After-enum-told) where
-  abbrev all : tie.After-first-of2
+  abbrev all : tie.After-first-of
   all = c .before .before
 
-  abbrev values : tie.After-first-of
-  values = all .before
-
   abbrev on-table : tie.After-table-reply
-  on-table = values .before .before .before
+  on-table = all .before .before
 
-  abbrev measured : tie.After-lists-fit
-  measured = on-table .before .before
+  abbrev measured : tie.Else2
+  measured = on-table .before
 
-  abbrev entry : tie.Start
-  entry = start (measured .before)
+  abbrev asked : tie.Else1
+  asked = measured .before .before
 
-  fits :
-      Fitting (entry .args .states) (entry .args .sections) (length (entry .args .channel .now)) (length (entry .args .apriori .now)) (entry .args .marks)
-      (entry .args .margins) (entry .args .extrinsics) (entry .args .work)
-  fits = measured .lists-fit .ensures (not-false _ (on-table .before .if4 .left))
+  abbrev start : tie.Start
+  start = asked .before .before .before .before
 
-  pass :
-      Pass (tableOf (entry .args .states) (entry .args .outputs) (entry .args .next .now) (entry .args .words .now)) (entry .args .sections)
-      (valuesOf (entry .args .channel .now) (entry .args .apriori .now))
+  is : IsButterfly (start .args .format .states) (start .args .format .outputs) (start .args .next .now) (start .args .words .now)
+  is = asked .before .is-butterfly .ensures (not-false _ (asked .if1 .left))
+
+  accepted :
+      (l : Lent) → Sized l (start .args .marks) (start .args .margins) (start .args .extrinsics) (start .args .work)
+      → Accepted (loneCallOf (start .args .format) (start .args .next .now) (start .args .words .now) (start .args .channel .now) (start .args .apriori .now)) l
   unfolding tableChecks Each
-  pass =
-      let (table-done, values-done) = then-is-done _ _ .0 (sym (all .first-of2 .ensures) ∙ c .enum-told .given .1) in
-      let (channel-done, apriori-done) = then-is-done _ _ .0 (sym (values .first-of .ensures) ∙ values-done) in
+  accepted l sized =
+      let (table-done, values-done) = then-is-done _ _ .0 (sym (all .first-of .ensures) ∙ c .enum-told .given .1) in
       let (shape, (branches, end)) = each-holds (tableChecks _) (sym (on-table .table-reply .ensures) ∙ table-done) in
+      let (channel-small, (apriori-small, rest)) = each-holds (channelCheck _ ∷ aprioriCheck _ ∷ []) (sym (all .before .values-reply .ensures) ∙ values-done) in
+      let lists = sym (measured .before .lists-fit .ensures) ∙ not-false _ (measured .if2 .left) in
+      let (up-to-extrinsics, work) = and-both _ _ lists in
+      let (up-to-margins, extrinsics) = and-both _ _ up-to-extrinsics in
+      let (up-to-marks, margins) = and-both _ _ up-to-margins in
+      let (values, marks) = and-both _ _ up-to-marks in
+      let (up-to-channel, apriori) = and-both _ _ values in
+      let (sizes, channel) = and-both _ _ up-to-channel in
       record {
-        shape = shape;
-        branches = branches;
-        fits = sections-fit (measured .before);
-        channel-long = fits .channel-fits ∙ ap (λ m. m * entry .args .sections) (sym (is (measured .before) .two-outputs));
-        apriori-long = fits .apriori-fits;
-        channel-small = each-holds (channelCheck _ ∷ []) (sym (values .before .before .channel-reply .ensures) ∙ channel-done) .0;
-        apriori-small = each-holds (aprioriCheck _ ∷ []) (sym (values .before .apriori-reply .ensures) ∙ apriori-done) .0;
+        pass = record {
+          shape = shape;
+          branches = branches;
+          fits = and-both (leb (start .args .format .states) 16 && leb (start .args .format .outputs) 4) _ sizes .1;
+          channel-long = eqb-true _ _ channel;
+          apriori-long = eqb-true _ _ apriori;
+          channel-small = channel-small;
+          apriori-small = apriori-small;
+        };
+        marks-long = sized .marks-sized ∙ eqb-true _ _ marks;
+        margins-long = sized .margins-sized ∙ eqb-true _ _ margins;
+        extrinsics-long = sized .extrinsics-sized ∙ eqb-true _ _ extrinsics;
+        work-long = sized .work-sized ∙ eqb-true _ _ work;
       }
 
-returns-5 : tie.Need-returns-5
-returns-5 c e = (
-  is (measured c .before),
-  λ end l sized. record {
-    pass = pass c;
-    marks-long = sized .marks-sized ∙ fits c .marks-fit;
-    margins-long = sized .margins-sized ∙ fits c .margins-fit;
-    extrinsics-long = sized .extrinsics-sized ∙ fits c .extrinsics-fit;
-    work-long = sized .work-sized ∙ fits c .work-fits;
-  },
-)
+returns-3 : tie.Need-returns-3
+returns-3 c e = (is c, accepted c)
 
-returns-6 : tie.Need-returns-6
-returns-6 c e = absurd (false≢true e)
+returns-4 : tie.Need-returns-4
+returns-4 c e = absurd (false≢true e)
 
 pub takes-spec : {M : Type 1} → statement M
 takes-spec =
@@ -137,16 +112,12 @@ takes-spec =
     (tie.spec
     is-butterfly-requires
     returns
-    returns-2
-    returns-3
     lists-fit-requires
-    returns-4
+    returns-2
     table-reply-requires
-    channel-reply-requires
-    apriori-reply-requires
+    values-reply-requires
     first-of-requires
-    first-of-requires-2
     enum-told
     enum-told-2
-    returns-5
-    returns-6)
+    returns-3
+    returns-4)

@@ -16,7 +16,7 @@ use Rattle.trellis.specs.Table.{Table, tableOf}
 use Rattle.trellis.specs.Path.{Values, aprioriAt, channelAt}
 use Rattle.trellis.specs.Outcome.{pathless}
 use Rattle.trellis.specs.laws.Sweeps.{starts}
-use Rattle.siso.specs.Lent.{valuesOf}
+use Rattle.siso.specs.Lent.{valuesOf, passTable}
 use Rattle.siso.specs.laws.Pass.{Pass, Bests, Last, Written}
 use Rattle.siso.specs.laws.Passed.{table-limits, few-sections, values-bounded}
 use Rattle.siso.specs.laws.Settled.{reached-is, settled-none, settled-done}
@@ -32,28 +32,30 @@ use Rattle.butterfly.proofs.pass.run.Tie as tie
 winged-as : {t : Table} {n : ℕ} {v : Values} {h h′ : ℕ} {signs : List ℤ} → h ≡ h′ → Winged t n v h′ signs → Winged t n v h signs
 winged-as e w = rw e w
 
-module _ {states : ℕ} {next words : List ℕ} {n : ℕ} {v : Values} {signs : List ℤ} (b : IsButterfly states 2 next words) (p : Pass (tableOf states 2 next words) n v) where
-  winged : AreSigns next words (states / 2) signs → Winged (tableOf states 2 next words) n v (states / 2) signs
+module _
+    {states outputs : ℕ} {next words : List ℕ} {n : ℕ} {v : Values} {signs : List ℤ} (b : IsButterfly states outputs next words)
+    (p : Pass (tableOf states outputs next words) n v) where
+  winged : AreSigns next words (states / 2) signs → Winged (tableOf states outputs next words) n v (states / 2) signs
   winged are = record {
     pass = p;
     halves = b .steps .halves;
-    two-outputs = refl;
-    wings = λ k. table-wings (tableOf states 2 next words) v k refl (b .is-wing) are;
+    two-outputs = b .two-outputs;
+    wings = λ k. table-wings (tableOf states outputs next words) v k (b .two-outputs) (b .is-wing) are;
   }
 
 -- ---- names for what is known
 
 module _ (c : tie.Start) where
   abbrev t : Table
-  t = tableOf (c .args .states) 2 (c .args .next .now) (c .args .words .now)
+  t = passTable (c .args .format) (c .args .next .now) (c .args .words .now)
 
   abbrev v : Values
   v = valuesOf (c .args .channel .now) (c .args .apriori .now)
 
-  is : IsButterfly (c .args .states) 2 (c .args .next .now) (c .args .words .now)
+  is : IsButterfly (c .args .format .states) (c .args .format .outputs) (c .args .next .now) (c .args .words .now)
   is = c .pre .0
 
-  pass : Pass t (c .args .sections) v
+  pass : Pass t (c .args .format .sections) v
   pass = c .pre .1 .0
 
 signs-requires : tie.Need-signs-requires
@@ -80,10 +82,10 @@ module _ (c : tie.After-kind-of) where
   abbrev kind : Kind
   kind = c .kind-of .result
 
-  flies : Winged (t start) (start .args .sections) (v start) (kind .half) (signed .signs .result)
+  flies : Winged (t start) (start .args .format .sections) (v start) (kind .half) (signed .signs .result)
   flies = winged-as (c .kind-of .ensures .1) (winged (is start) (pass start) (signed .signs .ensures))
 
-  same-states : statesOf kind ≡ start .args .states
+  same-states : statesOf kind ≡ start .args .format .states
   same-states = sym (flies .halves)
 
 gather-all-requires : tie.Need-gather-all-requires
@@ -92,7 +94,7 @@ gather-all-requires c κs =
     let s = start k in
     let (work-long, (marks-long, (margins-long, extrinsics-long))) = s .pre .1 .1 in (
       record { known = k .kind-of .ensures .0; table = t s; winged = flies k },
-      (work-long ∙ ap (λ m. (s .args .sections + 1) * m) (sym (same-states k)), (margins-long, extrinsics-long)),
+      (work-long ∙ ap (λ m. (s .args .format .sections + 1) * m) (sym (same-states k)), (margins-long, extrinsics-long)),
     )
 
 -- ---- after the sweeps
@@ -111,18 +113,18 @@ module _ (c : tie.After-gather-all) where
   gathered-extrinsics = c .gather-all .last .1 .1 .1 .1 .1 .1 .1 .0
 
   stage :
-      Stage (t entry) (v entry) (entry .args .end) (entry .args .sections) (starts (entry .args .states) (entry .args .end)) (c .gather-all .result)
+      Stage (t entry) (v entry) (entry .args .format .end) (entry .args .format .sections) (starts (entry .args .format .states) (entry .args .format .end)) (c .gather-all .result)
       gathered-margins gathered-extrinsics
   stage = rw (same-states known) at (c .gather-all .ensures .0 (t entry) (flies known))
 
   -- whether a state to start in has a path tells whether there is one
-  told : pathless (t entry) (entry .args .end) (entry .args .sections) ≡ not (c .gather-all .result)
-  told = reached-is (pass entry) (entry .args .end) ∙ ap not (sym (stage .reached))
+  told : pathless (t entry) (entry .args .format .end) (entry .args .format .sections) ≡ not (c .gather-all .result)
+  told = reached-is (pass entry) (entry .args .format .end) ∙ ap not (sym (stage .reached))
 
-  margins-long : length gathered-margins ≡ entry .args .sections
+  margins-long : length gathered-margins ≡ entry .args .format .sections
   margins-long = c .gather-all .kept .1 .1 .1 .1 .1 .1 .0 ∙ entry .pre .1 .1 .1 .1 .0
 
-  extrinsics-long : length gathered-extrinsics ≡ entry .args .sections
+  extrinsics-long : length gathered-extrinsics ≡ entry .args .format .sections
   extrinsics-long = c .gather-all .kept .1 .1 .1 .1 .1 .1 .1 .0 ∙ entry .pre .1 .1 .1 .1 .1
 
 clear-requires : tie.Need-clear-requires
@@ -166,15 +168,15 @@ module _ (c : tie.After-gather-all) (there : c .gather-all .result ≡ true) whe
   s = entry c
 
   abbrev last-start : ℕ
-  last-start = starts (s .args .states) (s .args .end) - 1
+  last-start = starts (s .args .format .states) (s .args .format .end) - 1
 
-  last-is : last-start + 1 ≡ starts (s .args .states) (s .args .end)
-  last-is = omega (arith, some-start (s .args .states) (s .args .end) (table-limits (pass s) .some-state))
+  last-is : last-start + 1 ≡ starts (s .args .format .states) (s .args .format .end)
+  last-is = omega (arith, some-start (s .args .format .states) (s .args .format .end) (table-limits (pass s) .some-state))
 
-  last : Last (t s) (s .args .end) (s .args .sections) last-start
+  last : Last (t s) (s .args .format .end) (s .args .format .sections) last-start
   last = record { none-left = last-is; path = told c ∙ ap not there }
 
-  bests : Bests (t s) (v s) (s .args .end) (s .args .sections) (last-start + 1) false (gathered-margins c) (gathered-extrinsics c)
+  bests : Bests (t s) (v s) (s .args .format .end) (s .args .format .sections) (last-start + 1) false (gathered-margins c) (gathered-extrinsics c)
   bests = rw last-is (stage c .bests there)
 
 -- the values are within their limits, wherever they stand
@@ -182,7 +184,7 @@ values-small :
     (c : tie.Start) → ((i : ℕ) → Within 1023 (getD (c .args .channel .now) i (pos 0))) × ((i : ℕ) → Within 8191 (getD (c .args .apriori .now) i (pos 0)))
 unfolding channelAt aprioriAt
 values-small c = (
-  λ i. let e : 2 * 0 + i ≡ i = omega arith in rw e at (values-bounded (pass c) .channel 0 i),
+  λ i. let e : c .args .format .outputs * 0 + i ≡ i = omega arith in rw e at (values-bounded (pass c) .channel 0 i),
   λ i. values-bounded (pass c) .apriori i,
 )
 
@@ -194,7 +196,7 @@ tell-requires c κs =
     let there = not-false _ (branch .if1 .left) in (
       few-sections (pass e),
       (
-        pass e .channel-long,
+        pass e .channel-long ∙ ap (λ m. m * e .args .format .sections) (is e .two-outputs),
         (
           pass e .apriori-long,
           (
@@ -203,7 +205,7 @@ tell-requires c κs =
               margins-long all,
               (
                 extrinsics-long all,
-                (values-small e .0, (values-small e .1, all-tellable (pass e) (e .args .end) (last all there) (bests all there))),
+                (values-small e .0, (values-small e .1, all-tellable (pass e) (e .args .format .end) (last all there) (bests all there))),
               ),
             ),
           ),
@@ -228,13 +230,13 @@ written :
     (c : tie.After-tell)
     → let all = swept (c .before .before .before .before .before .before) in
     let e = entry all in
-    Written (t e) (v e) (e .args .end) (e .args .sections) (c .tell .last .1 .1 .1 .0) (c .tell .last .1 .1 .1 .1 .0) (c .tell .last .1 .1 .1 .1 .1 .0)
+    Written (t e) (v e) (e .args .format .end) (e .args .format .sections) (c .tell .last .1 .1 .1 .0) (c .tell .last .1 .1 .1 .1 .0) (c .tell .last .1 .1 .1 .1 .1 .0)
 written c =
     let branch = c .before .before .before .before in
     let all = swept (branch .before .before) in
     let e = entry all in
     let there = not-false _ (branch .if1 .left) in
-    all-told (pass e) (e .args .end) (last all there) (bests all there) refl (is e .is-systematic)
+    all-told (pass e) (e .args .format .end) (last all there) (bests all there) (is e .two-outputs) (is e .is-systematic)
     (c .tell .kept .1 .1 .1 .0 ∙ e .pre .1 .1 .1 .0)
     (c .tell .kept .1 .1 .1 .1 .0 ∙ margins-long all)
     (c .tell .kept .1 .1 .1 .1 .1 .0 ∙ extrinsics-long all)

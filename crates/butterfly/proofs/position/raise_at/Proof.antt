@@ -14,7 +14,7 @@ use mir.Val.{SFits}
 use borrow.Author.Needs.{needs}
 use Rattle.integers.specs.laws.Linear.{fits-of}
 use Rattle.trellis.specs.Outcome.{larger}
-use Rattle.siso.specs.laws.Held.{held}
+use Rattle.metrics.specs.Words.{held}
 use Rattle.siso.specs.laws.Told.{raised, LeftAt}
 use Rattle.butterfly.proofs.Sums.{kept}
 use Rattle.butterfly.proofs.position.raise_at.Statement.{statement}

@@ -37,8 +37,8 @@ own-is :
     c .own-of .result ≡ getD (begun at .args .apriori .now) (at .loop .k) (pos 0) +ℤ getD (begun at .args .channel .now) (2 * at .loop .k) (pos 0)
 own-is c =
     let at = turn c in
-    let a-fits : SFits w16 (getD (begun at .args .apriori .now) (at .loop .k) (pos 0)) = fits-of (c .before .before .own-of-arg .given) in
-    let y-fits : SFits w16 (getD (begun at .args .channel .now) (2 * at .loop .k) (pos 0)) = fits-of (c .before .own-of-arg2 .given) in
+    let a-fits : SFits w16 (getD (begun at .args .apriori .now) (at .loop .k) (pos 0)) = fits-of (c .before .before .a .given) in
+    let y-fits : SFits w16 (getD (begun at .args .channel .now) (2 * at .loop .k) (pos 0)) = fits-of (c .before .y .given) in
     rw (toZ-ofZ a-fits, toZ-ofZ y-fits) at (c .own-of .ensures)
 
 -- ---- the needs
@@ -48,28 +48,23 @@ loop-holds c =
     let pre = c .before .pre in
     (omega arith, told-none _ _ _ _ (pre .1 .1 .1 .0) (pre .1 .1 .1 .1 .0) (pre .1 .1 .1 .1 .1 .0))
 
-mul-own-of : tie.Need-mul-own-of Inv-loop μ-loop
-mul-own-of c = search needs
+mul-a : tie.Need-mul-a Inv-loop μ-loop
+mul-a c = search needs
 
-shared-slice-copy-out-own-of : tie.Need-shared-slice-copy-out-own-of Inv-loop μ-loop
-shared-slice-copy-out-own-of c = search needs
+shared-slice-copy-out-a : tie.Need-shared-slice-copy-out-a Inv-loop μ-loop
+shared-slice-copy-out-a c = search needs
 
-mul-own-of-2 : tie.Need-mul-own-of-2 Inv-loop μ-loop
-mul-own-of-2 c = search needs
+mul-y : tie.Need-mul-y Inv-loop μ-loop
+mul-y c = search needs
 
-mul-own-of-3 : tie.Need-mul-own-of-3 Inv-loop μ-loop
-mul-own-of-3 c = search needs
+mul-y-2 : tie.Need-mul-y-2 Inv-loop μ-loop
+mul-y-2 c = search needs
 
-shared-slice-copy-out-own-of-2 : tie.Need-shared-slice-copy-out-own-of-2 Inv-loop μ-loop
-shared-slice-copy-out-own-of-2 c = search needs
+shared-slice-copy-out-y : tie.Need-shared-slice-copy-out-y Inv-loop μ-loop
+shared-slice-copy-out-y c = search needs
 
 own-of-requires : tie.Need-own-of-requires Inv-loop μ-loop
-own-of-requires c κs =
-    let at = c .before .before .before in
-    let (channel-small, (apriori-small, can)) = begun at .pre .1 .1 .1 .1 .1 .1 in
-    let a-fits : SFits w16 (getD (begun at .args .apriori .now) (at .loop .k) (pos 0)) = fits-of (c .before .own-of-arg .given) in
-    let y-fits : SFits w16 (getD (begun at .args .channel .now) (2 * at .loop .k) (pos 0)) = fits-of (c .own-of-arg2 .given) in
-    rw (toZ-ofZ a-fits, toZ-ofZ y-fits) (apriori-small (at .loop .k), channel-small (2 * at .loop .k))
+own-of-requires c κs = search needs
 
 tell-at-requires : tie.Need-tell-at-requires Inv-loop μ-loop
 tell-at-requires c κs =
@@ -127,11 +122,11 @@ tell-spec =
     Inv-loop
     μ-loop
     loop-holds
-    mul-own-of
-    shared-slice-copy-out-own-of
-    mul-own-of-2
-    mul-own-of-3
-    shared-slice-copy-out-own-of-2
+    mul-a
+    shared-slice-copy-out-a
+    mul-y
+    mul-y-2
+    shared-slice-copy-out-y
     own-of-requires
     tell-at-requires
     add-k

@@ -13,8 +13,8 @@ use Rattle.integers.specs.laws.Laws.{within-zero}
 use Rattle.integers.specs.laws.Linear.{fits-of}
 use Rattle.lists.specs.Lists.{found}
 use Rattle.lists.specs.laws.Tests.{and-both}
-use Rattle.siso.specs.laws.Held.{held}
-use Rattle.siso.proofs.Held.{found-some}
+use Rattle.metrics.specs.Words.{held}
+use Rattle.metrics.specs.laws.Held.{found-some}
 use Rattle.butterfly.proofs.Told.{told-at}
 use Rattle.butterfly.proofs.position.tell_at.Statement.{statement}
 use Rattle.butterfly.proofs.position.tell_at.Tie as tie

@@ -10,7 +10,7 @@ use native.Mathlib.Omega.{arith}
 use mir.Facts.{toZ-ofZ}
 use Rattle.integers.specs.laws.Linear.{fits-of}
 use Rattle.lists.specs.Lists.{found}
-use Rattle.siso.specs.laws.Held.{row}
+use Rattle.metrics.specs.Words.{row}
 use Rattle.butterfly.proofs.starts.all_reached.Statement.{statement}
 use Rattle.butterfly.proofs.starts.all_reached.Tie as tie
 

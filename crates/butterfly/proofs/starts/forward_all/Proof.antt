@@ -10,7 +10,7 @@ use Rattle.trellis.specs.Table.{Table}
 use Rattle.trellis.specs.Path.{Values}
 use Rattle.trellis.specs.laws.Sweeps.{boundary, forward}
 use Rattle.siso.specs.Lent.{valuesOf}
-use Rattle.siso.specs.laws.Held.{row}
+use Rattle.metrics.specs.Words.{row}
 use Rattle.siso.specs.laws.Steps.{Agree}
 use Rattle.siso.proofs.ForwardRows.{rows-none}
 use Rattle.butterfly.specs.laws.Flights.{Winged, Flight, statesOf}

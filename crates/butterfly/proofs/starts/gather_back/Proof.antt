@@ -15,7 +15,7 @@ use Rattle.trellis.specs.Table.{Table}
 use Rattle.trellis.specs.Path.{Values}
 use Rattle.trellis.specs.laws.Sweeps.{ending, backward, boundary}
 use Rattle.siso.specs.Lent.{valuesOf}
-use Rattle.siso.specs.laws.Held.{row, rowAt}
+use Rattle.metrics.specs.Words.{row, rowAt}
 use Rattle.siso.specs.laws.Pass.{Forward}
 use Rattle.siso.specs.laws.Steps.{Agree}
 use Rattle.siso.proofs.Gathering.{left-none, all-gathered}

@@ -16,7 +16,7 @@ use Rattle.trellis.specs.laws.MaxPlus.{plus}
 use Rattle.trellis.specs.laws.Over.{over, over-ext}
 use Rattle.trellis.specs.laws.Sweeps.{boundary, ending, forward, starts, reach, reachFrom}
 use Rattle.siso.specs.Lent.{valuesOf}
-use Rattle.siso.specs.laws.Held.{row}
+use Rattle.metrics.specs.Words.{row}
 use Rattle.siso.specs.laws.Pass.{Bests}
 use Rattle.siso.specs.laws.Passed.{table-limits}
 use Rattle.siso.specs.laws.Steps.{Agree}

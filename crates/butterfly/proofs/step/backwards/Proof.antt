@@ -21,8 +21,8 @@ use Rattle.trellis.specs.laws.MaxPlus.{plus}
 use Rattle.trellis.specs.laws.Over.{over, over-zero}
 use Rattle.trellis.specs.laws.Sizes.{Small}
 use Rattle.trellis.specs.laws.Sweeps.{Row, retreat, passing}
-use Rattle.siso.specs.laws.Held.{held, row, rowAt}
-use Rattle.siso.proofs.Held.{found-some}
+use Rattle.metrics.specs.Words.{held, row, rowAt}
+use Rattle.metrics.specs.laws.Held.{found-some}
 use Rattle.butterfly.specs.laws.Halves.{over-halves}
 use Rattle.butterfly.specs.laws.Metrics.{Wings, gainAt, straightAt, near-before, far-before, zero-through, one-through}
 use Rattle.butterfly.proofs.Entries.{near-more, far-more, both-halves, over-more, held-cond}

@@ -15,8 +15,8 @@ use Rattle.integers.specs.laws.Bounds.{Within}
 use Rattle.integers.specs.laws.Linear.{plain, fits-of}
 use Rattle.trellis.specs.laws.Sizes.{Small}
 use Rattle.trellis.specs.laws.Sweeps.{advance}
-use Rattle.siso.specs.laws.Held.{held, row}
-use Rattle.siso.proofs.Held.{found-some}
+use Rattle.metrics.specs.Words.{held, row}
+use Rattle.metrics.specs.laws.Held.{found-some}
 use Rattle.butterfly.specs.laws.Metrics.{Wings, gainAt, even-after, odd-after}
 use Rattle.butterfly.proofs.Entries.{side-by-side}
 use Rattle.butterfly.proofs.Sums.{kept, gain-small}

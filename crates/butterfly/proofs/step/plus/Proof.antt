@@ -8,8 +8,8 @@ use Rattle.integers.specs.laws.Bounds.{Within}
 use Rattle.integers.specs.laws.Laws.{within-more}
 use Rattle.integers.specs.laws.Linear.{plain}
 use Rattle.trellis.specs.laws.MaxPlus.{plus}
-use Rattle.siso.specs.laws.Held.{held}
-use Rattle.siso.proofs.Held.{held-none, held-some}
+use Rattle.metrics.specs.Words.{held}
+use Rattle.metrics.specs.laws.Held.{held-none, held-some}
 use Rattle.butterfly.proofs.Sums.{small-fits, sum-there}
 use Rattle.butterfly.proofs.step.plus.Statement.{statement}
 use Rattle.butterfly.proofs.step.plus.Tie as tie

@@ -14,7 +14,7 @@ use Rattle.integers.specs.laws.Linear.{plain, fits-of}
 use Rattle.trellis.specs.Outcome.{larger}
 use Rattle.trellis.specs.laws.MaxPlus.{plus}
 use Rattle.trellis.specs.laws.Sizes.{Small}
-use Rattle.siso.specs.laws.Held.{held}
+use Rattle.metrics.specs.Words.{held}
 use Rattle.butterfly.proofs.Sums.{kept, same-small, sum-small, sum-stands}
 use Rattle.butterfly.proofs.step.through.Statement.{statement}
 use Rattle.butterfly.proofs.step.through.Tie as tie

@@ -17,7 +17,8 @@ use Rattle.trellis.specs.Table.{Table, nextState}
 use Rattle.trellis.specs.Path.{Values, branchMetric}
 use Rattle.trellis.specs.laws.Sweeps.{boundary, forward}
 use Rattle.siso.specs.Lent.{valuesOf}
-use Rattle.siso.specs.laws.Held.{row, Held}
+use Rattle.metrics.specs.Words.{row}
+use Rattle.siso.specs.laws.Held.{Held}
 use Rattle.siso.specs.laws.Pass.{Forward}
 use Rattle.siso.specs.laws.Passed.{few-sections, forward-is-small}
 use Rattle.siso.specs.laws.Steps.{Agree}
@@ -108,9 +109,7 @@ shared-slice-copy-out-own-of-2 : tie.Need-shared-slice-copy-out-own-of-2 Inv-loo
 shared-slice-copy-out-own-of-2 c = omega (arith, inside (c .before))
 
 own-of-requires : tie.Need-own-of-requires Inv-loop μ-loop
-own-of-requires c κs =
-    let turn = c .before .before in
-    rw (toZ-ofZ (fits-of (c .before .own-of-arg .given)), toZ-ofZ (fits-of (c .own-of-arg2 .given))) (read-small (given turn .winged) (k turn))
+own-of-requires c κs = search needs
 
 mul-other : tie.Need-mul-other Inv-loop μ-loop
 mul-other c = omega (arith, inside (c .before .before .before))

@@ -19,7 +19,8 @@ use Rattle.trellis.specs.Path.{Values, branchMetric}
 use Rattle.trellis.specs.Outcome.{intrinsic}
 use Rattle.trellis.specs.laws.Sweeps.{boundary, ending, forward, backward, meetFrom}
 use Rattle.siso.specs.Lent.{valuesOf}
-use Rattle.siso.specs.laws.Held.{held, row, rowAt, Held}
+use Rattle.metrics.specs.Words.{held, row, rowAt}
+use Rattle.siso.specs.laws.Held.{Held}
 use Rattle.siso.specs.laws.Pass.{Forward}
 use Rattle.siso.specs.laws.Passed.{few-sections, table-closed, forward-is-small, backward-is-small}
 use Rattle.siso.specs.laws.Steps.{Agree}
@@ -135,9 +136,7 @@ shared-slice-copy-out-own-of-2 : tie.Need-shared-slice-copy-out-own-of-2 Inv-loo
 shared-slice-copy-out-own-of-2 c = omega (arith, inside (c .before))
 
 own-of-requires : tie.Need-own-of-requires Inv-loop μ-loop
-own-of-requires c κs =
-    let turn = c .before .before in
-    rw (toZ-ofZ (fits-of (c .before .own-of-arg .given)), toZ-ofZ (fits-of (c .own-of-arg2 .given))) (read-small (given turn .winged) (k turn))
+own-of-requires c κs = search needs
 
 mul-other : tie.Need-mul-other Inv-loop μ-loop
 mul-other c = omega (arith, inside (c .before .before .before))

@@ -12,7 +12,7 @@ use mir.Facts.{toZ-ofZ}
 use Rattle.integers.specs.laws.Linear.{fits-of}
 use Rattle.lists.specs.laws.Listed.{map-at}
 use Rattle.frame.specs.laws.Interleaving.{Placed, placed-none, placed-more, placed-all}
-use Rattle.decoder.specs.Decoder.{handOver}
+use Rattle.soft.specs.Soft.{handOver}
 use borrow.Author.Needs.{needs}
 use Rattle.decoder.proofs.handover.hand_back.Statement.{statement}
 use Rattle.decoder.proofs.handover.hand_back.Tie as tie

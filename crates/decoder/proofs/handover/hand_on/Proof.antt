@@ -13,7 +13,7 @@ use Rattle.integers.specs.laws.Linear.{fits-of}
 use Rattle.lists.specs.laws.Listed.{map-at}
 use Rattle.lists.specs.laws.Stores.{Filled, filled-none, filled-more}
 use Rattle.frame.specs.laws.Interleaving.{interleave-filled}
-use Rattle.decoder.specs.Decoder.{handOver}
+use Rattle.soft.specs.Soft.{handOver}
 use borrow.Author.Needs.{needs}
 use Rattle.decoder.proofs.handover.hand_on.Statement.{statement}
 use Rattle.decoder.proofs.handover.hand_on.Tie as tie

@@ -11,7 +11,7 @@ use Rattle.lists.specs.laws.Lending.{Back, front-long, front-back}
 use Rattle.frame.specs.Frame.{tailOf, tail1, tail2, sections1, sections2, longer, sizesFit, lengthUnder, frameLength}
 use Rattle.frame.specs.laws.Checked.{Checked, checked, sections-fit, few-tail}
 use Rattle.decoder.specs.Decoder.{DecodeCall}
-use Rattle.decoder.specs.laws.Gathering.{Gathered, first-small, second-small}
+use Rattle.decoder.specs.laws.Gathering.{Gathered, channel1-small, channel2-small}
 use Rattle.decoder.specs.laws.Passing.{Zeros}
 use Rattle.decoder.specs.laws.Iterating.{Fitting}
 use Rattle.decoder.specs.laws.Settled.{readCall, finished-is}
@@ -22,7 +22,7 @@ use Rattle.decoder.proofs.run.run.Tie as tie
 abbrev call : tie.Start → DecodeCall
 call c =
     let a = c .args in
-    readCall (a .next .now) (a .words .now) (a .end1) (a .end2) (a .t) (a .pattern .now) (a .masks .now) (a .received .now) (a .iterations)
+    readCall (a .format) (a .next .now) (a .words .now) (a .pattern .now) (a .masks .now) (a .received .now) (a .iterations)
 
 known : (c : tie.Start) → Checked (call c .frame)
 known c = checked (call c .frame) (c .pre .framed)
@@ -37,17 +37,17 @@ abbrev start : tie.After-blank-channel2 → tie.Start
 start c = entry (tails c)
 
 -- the tail sections of the coders
-tail-1 : (c : tie.After-tail-of2) → c .before .tail-of .result ≡ tailOf (entry c .args .end1) (entry c .args .t)
+tail-1 : (c : tie.After-tail-of2) → c .before .tail-of .result ≡ tailOf (entry c .args .format .first) (entry c .args .format .tail)
 tail-1 c = c .before .tail-of .ensures
 
-tail-2 : (c : tie.After-tail-of2) → c .tail-of2 .result ≡ tailOf (entry c .args .end2) (entry c .args .t)
+tail-2 : (c : tie.After-tail-of2) → c .tail-of2 .result ≡ tailOf (entry c .args .format .second) (entry c .args .format .tail)
 tail-2 c = c .tail-of2 .ensures
 
 few-1 : (c : tie.After-tail-of2) → length (entry c .args .pattern .now) + c .before .tail-of .result ≤ 4096
-few-1 c = omega (arith, tail-1 c, few-tail (entry c .args .end1) (entry c .args .t), known (entry c) .few-sections)
+few-1 c = omega (arith, tail-1 c, few-tail (entry c .args .format .first) (entry c .args .format .tail), known (entry c) .few-sections)
 
 few-2 : (c : tie.After-tail-of2) → length (entry c .args .pattern .now) + c .tail-of2 .result ≤ 4096
-few-2 c = omega (arith, tail-2 c, few-tail (entry c .args .end2) (entry c .args .t), known (entry c) .few-sections)
+few-2 c = omega (arith, tail-2 c, few-tail (entry c .args .format .second) (entry c .args .format .tail), known (entry c) .few-sections)
 
 -- the number of values of each pass, for all of which its list has room
 abbrev count1 : tie.After-blank-channel2 → ℕ
@@ -79,7 +79,7 @@ gathered-by e g h = rw (e, g) at h
 
 gathered : (c : tie.After-gather-both) →
     let a = start (blanks c) .args in
-    Gathered (a .pattern .now) (tailOf (a .end1) (a .t)) (tailOf (a .end2) (a .t)) (a .masks .now) (a .received .now)
+    Gathered (a .pattern .now) (tailOf (a .format .first) (a .format .tail)) (tailOf (a .format .second) (a .format .tail)) (a .masks .now) (a .received .now)
     (c .gather-both .last .1 .1 .1 .1 .1 .0) (c .gather-both .last .1 .1 .1 .1 .1 .1 .0)
 gathered c = let all = tails (blanks c) in gathered-by (tail-1 all) (tail-2 all) (c .gather-both .ensures)
 
@@ -103,7 +103,7 @@ rows-within m n s w e h =
 fitting : (c : tie.After-gather-both) (work : List ℤ) →
     let a = start (blanks c) .args in
     length work ≡ length (a .work .now) → Zeros work →
-    Fitting (a .next .now) (a .words .now) (a .end1) (a .end2) (a .t) (a .pattern .now) (c .gather-both .last .1 .1 .1 .1 .1 .0) (c .gather-both .last .1 .1 .1 .1 .1 .1 .0)
+    Fitting (a .format) (a .next .now) (a .words .now) (a .pattern .now) (c .gather-both .last .1 .1 .1 .1 .1 .0) (c .gather-both .last .1 .1 .1 .1 .1 .1 .0)
     4096 4096 4096 4096 4096 work
 unfolding sizesFit longer sections1 sections2 tail1 tail2
 fitting c work long zeros =
@@ -115,13 +115,14 @@ fitting c work long zeros =
     record {
       shape = pre .framed .shape;
       branches = pre .framed .branches;
-      fits1 = sections-fit (a .end1) (length (a .pattern .now)) (a .t) (pre .framed .sizes);
-      fits2 = sections-fit (a .end2) (length (a .pattern .now)) (a .t) (pre .framed .sizes);
+      fits1 = sections-fit (a .format .first) (length (a .pattern .now)) (a .format .tail) (pre .framed .sizes);
+      fits2 = sections-fit (a .format .second) (length (a .pattern .now)) (a .format .tail) (pre .framed .sizes);
       permutes = w;
-      first-long = first-back c .long ∙ ap (λ (n : ℕ). 2 * (length (a .pattern .now) + n)) (tail-1 all);
-      second-long = second-back c .long ∙ ap (λ (n : ℕ). 2 * (length (a .pattern .now) + n)) (tail-2 all);
-      first-small = first-small w (gathered c) (pre .values);
-      second-small = second-small w (gathered c) (pre .values);
+      permuting = pre .framed .permutes;
+      channel1-long = first-back c .long ∙ ap (λ (n : ℕ). 2 * (length (a .pattern .now) + n)) (tail-1 all);
+      channel2-long = second-back c .long ∙ ap (λ (n : ℕ). 2 * (length (a .pattern .now) + n)) (tail-2 all);
+      channel1-small = channel1-small w (gathered c) (pre .values);
+      channel2-small = channel2-small w (gathered c) (pre .values);
       apriori-long = refl;
       marks1-long = refl;
       marks2-long = refl;
@@ -156,14 +157,14 @@ blank-channel-requires c κs = search needs
 blank-channel-requires-2 : tie.Need-blank-channel-requires-2
 blank-channel-requires-2 c κs = search needs
 
-array-borrow-prefix-first : tie.Need-array-borrow-prefix-first
-array-borrow-prefix-first c = room-first c
+array-borrow-prefix-channel1 : tie.Need-array-borrow-prefix-channel1
+array-borrow-prefix-channel1 c = room-first c
 
 slice-aggregate-gather-both : tie.Need-slice-aggregate-gather-both
 slice-aggregate-gather-both c = front-long _ _ (room-first (c .before))
 
-array-borrow-prefix-second : tie.Need-array-borrow-prefix-second
-array-borrow-prefix-second c = room-second (c .before)
+array-borrow-prefix-channel2 : tie.Need-array-borrow-prefix-channel2
+array-borrow-prefix-channel2 c = room-second (c .before)
 
 slice-aggregate-gather-both-2 : tie.Need-slice-aggregate-gather-both-2
 slice-aggregate-gather-both-2 c = front-long _ _ (room-second (c .before .before))
@@ -176,7 +177,7 @@ gather-both-requires c κs =
     let k = known begun in
     let e1 = tail-1 all in
     let e2 = tail-2 all in
-    let few : all .before .tail-of .result + all .tail-of2 .result ≤ 8 = omega (arith, k .few-tails, e1, e2, few-tail (begun .args .end1) (begun .args .t), few-tail (begun .args .end2) (begun .args .t)) in (
+    let few : all .before .tail-of .result + all .tail-of2 .result ≤ 8 = omega (arith, k .few-tails, e1, e2, few-tail (begun .args .format .first) (begun .args .format .tail), few-tail (begun .args .format .second) (begun .args .format .tail)) in (
       k .permutes,
       (
         omega (arith, k .few-sections),
@@ -199,14 +200,14 @@ gather-both-requires c κs =
 clear-requires : tie.Need-clear-requires
 clear-requires c κs = search needs
 
-array-share-prefix-first : tie.Need-array-share-prefix-first
-array-share-prefix-first c = first-back (c .before .before .before .before .before) .within
+array-share-prefix-channel1 : tie.Need-array-share-prefix-channel1
+array-share-prefix-channel1 c = first-back (c .before .before .before .before .before) .within
 
 slice-aggregate-passes : tie.Need-slice-aggregate-passes
 slice-aggregate-passes c = let back = first-back (c .before .before .before .before .before .before) in rw (back .is) (sym (back .long))
 
-array-share-prefix-second : tie.Need-array-share-prefix-second
-array-share-prefix-second c = second-back (c .before .before .before .before .before .before) .within
+array-share-prefix-channel2 : tie.Need-array-share-prefix-channel2
+array-share-prefix-channel2 c = second-back (c .before .before .before .before .before .before) .within
 
 slice-aggregate-passes-2 : tie.Need-slice-aggregate-passes-2
 slice-aggregate-passes-2 c = let back = second-back (c .before .before .before .before .before .before .before) in rw (back .is) (sym (back .long))
@@ -237,8 +238,8 @@ returns c =
     let begun = start (blanks at) in
     let a = begun .args in
     let finished = rw (first-back at .is, second-back at .is) at (ran .passes .ensures) in
-    finished-is (a .next .now) (a .words .now) (a .end1) (a .end2) (a .t) (a .pattern .now) (a .masks .now) (a .received .now) (a .iterations) _ _
-    (gathered at) _ _ _ _ _ _ _ (a .work .now) _ (ran .passes .kept .1 .1 .1 .1 .1 .1 .1 .1 .1 .1 .1 .1 .0 ∙ ran .before .before .before .before .before .before .before .before .clear .kept .0) finished
+    finished-is (a .format) (a .next .now) (a .words .now) (a .pattern .now) (a .masks .now) (a .received .now) (a .iterations) _ _
+    (gathered at) _ _ _ _ _ _ _ (a .work .now) _ (ran .passes .kept .1 .1 .1 .1 .1 .1 .1 .1 .1 .1 .0 ∙ ran .before .before .before .before .before .before .before .before .clear .kept .0) finished
 
 pub run-spec : {M : Type 1} → statement M
 run-spec =
@@ -252,15 +253,15 @@ run-spec =
     mul-count2
     blank-channel-requires
     blank-channel-requires-2
-    array-borrow-prefix-first
+    array-borrow-prefix-channel1
     slice-aggregate-gather-both
-    array-borrow-prefix-second
+    array-borrow-prefix-channel2
     slice-aggregate-gather-both-2
     gather-both-requires
     clear-requires
-    array-share-prefix-first
+    array-share-prefix-channel1
     slice-aggregate-passes
-    array-share-prefix-second
+    array-share-prefix-channel2
     slice-aggregate-passes-2
     passes-requires
     same-length

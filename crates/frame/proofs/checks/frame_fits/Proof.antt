@@ -13,7 +13,7 @@ use Rattle.frame.specs.laws.Checked.{sizes-small, few-tail}
 use Rattle.frame.proofs.checks.frame_fits.Statement.{statement}
 use Rattle.frame.proofs.checks.frame_fits.Tie as tie
 
-sized : (c : tie.Else1) → goodSizes (c .before .before .before .args .bits) (c .before .before .before .args .tail) ≡ true
+sized : (c : tie.Else1) → goodSizes (c .before .before .before .args .format .bits) (c .before .before .before .args .format .tail) ≡ true
 sized c = sym (c .before .sizes-fit .ensures) ∙ not-false _ (c .if1 .left)
 
 masked : (c : tie.Else2) → goodMasks (c .before .before .before .before .before .args .masks .now) ≡ true
@@ -39,12 +39,12 @@ tail-of-requires-2 c κs = search needs
 
 -- the tail sections of both coders are few
 few : (c : tie.After-tail-of2) → let args = c .before .before .before .before .before .before .before .args in
-    (c .before .tail-of .result + c .tail-of2 .result ≤ 8) × (args .bits ≤ 4096)
+    (c .before .tail-of .result + c .tail-of2 .result ≤ 8) × (args .format .bits ≤ 4096)
 few c =
     let measured = c .before .before in
     let args = measured .before .before .before .before .before .args in
-    let small = sizes-small (args .bits) (args .tail) (sized (measured .before .before)) in (
-      omega (arith, small .0, c .before .tail-of .ensures, c .tail-of2 .ensures, few-tail (args .first) (args .tail), few-tail (args .second) (args .tail)),
+    let small = sizes-small (args .format .bits) (args .format .tail) (sized (measured .before .before)) in (
+      omega (arith, small .0, c .before .tail-of .ensures, c .tail-of2 .ensures, few-tail (args .format .first) (args .format .tail), few-tail (args .format .second) (args .format .tail)),
       omega (arith, small .1),
     )
 

@@ -11,7 +11,7 @@ use Rattle.lists.specs.laws.Lending.{Back, front-long, front-back, front-replic
 use Rattle.refusal.specs.declared.Reply.the-variants.{Done}
 use Rattle.refusal.specs.Refusals.{told, _then_}
 use Rattle.decoder.specs.Decoder.{DecodeResult, decode}
-use Rattle.decoder.specs.Lent.{lentOf, resultOf}
+use Rattle.decoder.specs.Lent.{decodeLentOf, decodeResultOf}
 use Rattle.sheet.specs.laws.Printing.{work-unseen}
 use Rattle.sheet.specs.laws.Decoding.{houseCall, blankFor, printed-refused, printed-done, refused-place}
 use Rattle.sheet.proofs.decoding.decode_frame.Statement.{statement}
@@ -64,7 +64,7 @@ result c = decode (houseCall (start (blanks c) .args .pattern .now) (start (blan
 
 -- the lists were lent as zeros
 decoded : (c : tie.After-decode-house) →
-    resultOf (c .decode-house .result) (c .decode-house .last .1 .1 .0) (c .decode-house .last .1 .1 .1 .0) (c .decode-house .last .1 .1 .1 .1 .0) (c .decode-house .last .1 .1 .1 .1 .1 .0)
+    decodeResultOf (c .decode-house .result) (c .decode-house .last .1 .1 .0) (c .decode-house .last .1 .1 .1 .0) (c .decode-house .last .1 .1 .1 .1 .0) (c .decode-house .last .1 .1 .1 .1 .1 .0)
     ≡ result c
 decoded c =
     let made = blanks c in
@@ -180,7 +180,7 @@ returns-2 c =
     let told = call .before .before .before .before .before in
     let d = decoded ran in
     let w = rw (bits-back ran .is, margins-back ran .is, extrinsics-back ran .is) at (call .put-result .ensures) in
-    let same = work-unseen (lentOf (ran .decode-house .last .1 .1 .0) (ran .decode-house .last .1 .1 .1 .0) (ran .decode-house .last .1 .1 .1 .1 .0) []) (result ran .lists)
+    let same = work-unseen (decodeLentOf (ran .decode-house .last .1 .1 .0) (ran .decode-house .last .1 .1 .1 .0) (ran .decode-house .last .1 .1 .1 .1 .0) []) (result ran .lists)
     (ap (λ (x : DecodeResult). x .lists .bits) d) (ap (λ (x : DecodeResult). x .lists .margins) d) (ap (λ (x : DecodeResult). x .lists .extrinsics) d) in
     record { few = w .few; is = w .is ∙ same ∙ printed-done Done (result ran) (sym (ap (λ (x : DecodeResult). x .reply) d) ∙ told .enum-told .given .1) }
 

@@ -7,8 +7,9 @@ use lib.ListN.{length, take}
 use borrow.Author.Needs.{needs}
 use Rattle.lists.specs.Lists.{listed}
 use Rattle.lists.specs.laws.Lending.{Back, front-long, front-back}
-use Rattle.sheet.specs.Sheet.{messageBits, messageAt}
-use Rattle.sheet.specs.laws.Fitting.{Fitting, fitting}
+use Rattle.rows.specs.Lines.{messageBits}
+use Rattle.sheet.specs.Sheet.{messageAt}
+use Rattle.rows.specs.laws.Fitting.{Fitting, fitting}
 use Rattle.sheet.specs.laws.Receiving.{valuesTo, values-all}
 use Rattle.sheet.specs.laws.Decoding.{answer-by}
 use Rattle.sheet.proofs.decoding.decode_sheet.Statement.{statement}

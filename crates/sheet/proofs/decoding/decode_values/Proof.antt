@@ -8,13 +8,13 @@ use lib.ListN.{length}
 use borrow.Author.Tests.{not-true, not-false}
 use borrow.Author.Needs.{needs}
 use Rattle.lists.specs.laws.Lending.{Back, front-long, front-back}
-use Rattle.refusal.specs.declared.Refusal.the-variants.{Value}
+use Rattle.refusal.specs.declared.Refusal.the-variants.{ValueInLine}
 use Rattle.refusal.specs.declared.Reply.the-variants.{Refused}
 use Rattle.refusal.specs.Refusals.{told}
 use Rattle.refusal.specs.laws.Checks.{refused-then}
 use Rattle.trellis.specs.Limits.{channelFits}
 use Rattle.sheet.specs.laws.Decoding.{printed-refused, printed-alone}
-use Rattle.sheet.specs.laws.Loud.{loud-refused, loud-done}
+use Rattle.sheet.specs.laws.Range.{values-refused, values-done}
 use Rattle.sheet.proofs.decoding.decode_values.Statement.{statement}
 use Rattle.sheet.proofs.decoding.decode_values.Tie as tie
 
@@ -39,12 +39,12 @@ slice-aggregate-narrow-all c = front-long _ _ (room (c .before))
 narrow-all-requires : tie.Need-narrow-all-requires
 narrow-all-requires c κs = sym (front-long _ _ (room (c .before)))
 
-loud-line-requires : tie.Need-loud-line-requires
-loud-line-requires c κs = let pre = start (c .before .before) .pre in (pre .1 .1 .1, pre .1 .1 .0)
+value-line-requires : tie.Need-value-line-requires
+value-line-requires c κs = let pre = start (c .before .before) .pre in (pre .1 .1 .1, pre .1 .1 .0)
 
 put-refusal-requires : tie.Need-put-refusal-requires
 unfolding told
-put-refusal-requires c κs = (start (c .before .before .before .before) .pre .0, c .before .loud-line .ensures .1)
+put-refusal-requires c κs = (start (c .before .before .before .before) .pre .0, omega (arith, c .before .value-line .ensures .1))
 
 same-length : tie.Need-same-length
 same-length c = search needs
@@ -56,8 +56,8 @@ returns c =
     let test = line .before in
     let ran = test .before .before in
     let w = call .put-refusal .ensures in
-    let loud = sym (ran .narrow-all .ensures .0) ∙ not-true _ (test .if1 .taken) in
-    let told = ap (λ (n : ℕ). Refused (Value n)) (line .loud-line .ensures .0) ∙ loud-refused _ _ loud in
+    let outside = sym (ran .narrow-all .ensures .0) ∙ not-true _ (test .if1 .taken) in
+    let told = ap (λ (n : ℕ). Refused (ValueInLine n)) (line .value-line .ensures .0) ∙ values-refused _ _ outside in
     record { few = w .few; is = w .is ∙ printed-refused _ _ (refused-then _ (sym told)) }
 
 array-share-prefix-received : tie.Need-array-share-prefix-received
@@ -85,7 +85,7 @@ returns-2 c =
     let ran = test .before .before in
     let passed = not-false _ (test .if1 .left) in
     let w = rw (back ran .is, ran .narrow-all .ensures .1 passed) at (call .decode-frame .ensures) in
-    record { few = w .few; is = w .is ∙ printed-alone _ (loud-done _ _ (sym (ran .narrow-all .ensures .0) ∙ passed)) }
+    record { few = w .few; is = w .is ∙ printed-alone _ (values-done _ _ (sym (ran .narrow-all .ensures .0) ∙ passed)) }
 
 pub decode-values-spec : {M : Type 1} → statement M
 decode-values-spec =
@@ -95,7 +95,7 @@ decode-values-spec =
     array-borrow-prefix-received
     slice-aggregate-narrow-all
     narrow-all-requires
-    loud-line-requires
+    value-line-requires
     put-refusal-requires
     same-length
     returns

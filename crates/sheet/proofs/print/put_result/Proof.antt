@@ -11,7 +11,7 @@ use borrow.Author.Needs.{needs}
 use Rattle.integers.specs.laws.Linear.{fits-of}
 use Rattle.text.specs.Text.{bytes}
 use Rattle.lists.specs.Lists.{joined}
-use Rattle.decoder.specs.Lent.{lentOf}
+use Rattle.decoder.specs.Lent.{decodeLentOf}
 use Rattle.sheet.specs.laws.Printing.{lineText, pageTo, page-more, page-all, pasted-wrote}
 use Rattle.sheet.proofs.print.put_result.Statement.{statement}
 use Rattle.sheet.proofs.print.put_result.Tie as tie
@@ -21,7 +21,7 @@ Inv-loop page₀ bits margins extrinsics at₀ k₀ page at k =
     (k ≤ length bits)
     × (length page ≡ 24600)
     × (at ≤ 24 + 48 * k)
-    × (take at page ≡ pageTo (lentOf bits margins extrinsics []) k)
+    × (take at page ≡ pageTo (decodeLentOf bits margins extrinsics []) k)
 
 abbrev μ-loop : tie.MeasureT-loop
 μ-loop page₀ bits margins extrinsics at₀ k₀ page at k = length bits - k
@@ -72,7 +72,7 @@ loop-again c =
     let call = c .before .before in
     let loop = call .before .before .before .before .before .before .loop in
     let start = call .before .before .before .before .before .before .before .before .before .before .before .before .before .before in
-    let l = lentOf (start .args .bits .now) (start .args .margins .now) (start .args .extrinsics .now) [] in
+    let l = decodeLentOf (start .args .bits .now) (start .args .margins .now) (start .args .extrinsics .now) [] in
     let line = rw (toZ-ofZ (fits-of (call .before .before .put-line-arg2 .given)), toZ-ofZ (fits-of (call .before .put-line-arg3 .given))) at (call .put-line .ensures) in (
       omega arith,
       call .put-line .kept .0 ∙ loop .inv .1,

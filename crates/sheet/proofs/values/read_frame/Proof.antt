@@ -10,14 +10,14 @@ use Rattle.sheet.proofs.values.read_frame.Tie as tie
 read-messages-requires : tie.Need-read-messages-requires
 read-messages-requires c κs = search needs
 
-tail-at-requires : tie.Need-tail-at-requires
-tail-at-requires c κs = search needs
+tail-in-requires : tie.Need-tail-in-requires
+tail-in-requires c κs = search needs
 
-add-tail-at : tie.Need-add-tail-at
-add-tail-at c = search needs
+add-tail-in : tie.Need-add-tail-in
+add-tail-in c = search needs
 
-tail-at-requires-2 : tie.Need-tail-at-requires-2
-tail-at-requires-2 c κs = search needs
+tail-in-requires-2 : tie.Need-tail-in-requires-2
+tail-in-requires-2 c κs = search needs
 
 mul-put-tails : tie.Need-mul-put-tails
 mul-put-tails c = search needs
@@ -39,7 +39,7 @@ returns c =
     let tail1 = tail2 .before in
     let read = tail1 .before .before .before .before in (
       read .read-messages .ensures .0,
-      call .put-tails .ensures ∙ ap₂ _++_ (read .read-messages .ensures .1) (ap₂ bothTails (tail1 .tail-at .ensures) (tail2 .tail-at2 .ensures)),
+      call .put-tails .ensures ∙ ap₂ _++_ (read .read-messages .ensures .1) (ap₂ bothTails (tail1 .tail-in .ensures) (tail2 .tail-in2 .ensures)),
     )
 
 pub read-frame-spec : {M : Type 1} → statement M
@@ -47,9 +47,9 @@ read-frame-spec =
     tie.close
     (tie.spec
     read-messages-requires
-    tail-at-requires
-    add-tail-at
-    tail-at-requires-2
+    tail-in-requires
+    add-tail-in
+    tail-in-requires-2
     mul-put-tails
     put-tails-requires
     same-length

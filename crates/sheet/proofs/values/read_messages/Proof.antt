@@ -13,10 +13,10 @@ use Rattle.text.specs.Text.{cut}
 use Rattle.lists.specs.Lists.{joined}
 use Rattle.lists.specs.laws.Listed.{joined-more}
 use Rattle.lists.specs.laws.Stores.{Filled, filled-none, filled-more, filled-all}
-use Rattle.sheet.specs.laws.Pieces.{Begins, begins-first, begins-next, ends-inside, ends-after, ends-before, piece-is}
+use Rattle.rows.specs.laws.Pieces.{Begins, begins-first, begins-next, ends-inside, ends-after, ends-before, piece-is}
 use Rattle.sheet.specs.Sheet.{messageAt}
 use Rattle.sheet.specs.Sheet.{messageValues}
-use Rattle.sheet.specs.laws.Receiving.{message-said}
+use Rattle.sheet.specs.laws.Receiving.{message-read}
 use Rattle.sheet.proofs.values.read_messages.Statement.{statement}
 use Rattle.sheet.proofs.values.read_messages.Tie as tie
 
@@ -65,17 +65,17 @@ loop-holds c =
 next-at-requires-2 : tie.Need-next-at-requires-2 Inv-loop μ-loop
 next-at-requires-2 c κs = search needs
 
-sub-message : tie.Need-sub-message Inv-loop μ-loop
-sub-message c = omega (arith, bounds c)
+sub-message-row : tie.Need-sub-message-row Inv-loop μ-loop
+sub-message-row c = omega (arith, bounds c)
 
-part-message-start : tie.Need-part-message-start Inv-loop μ-loop
-part-message-start c = omega (arith, bounds c)
+part-message-row-start : tie.Need-part-message-row-start Inv-loop μ-loop
+part-message-row-start c = omega (arith, bounds c)
 
-part-message-end : tie.Need-part-message-end Inv-loop μ-loop
-part-message-end c = omega (arith, bounds c)
+part-message-row-end : tie.Need-part-message-row-end Inv-loop μ-loop
+part-message-row-end c = omega (arith, bounds c)
 
-message-requires : tie.Need-message-requires Inv-loop μ-loop
-message-requires c κs = search needs
+message-row-requires : tie.Need-message-row-requires Inv-loop μ-loop
+message-row-requires c κs = search needs
 
 mul-pattern : tie.Need-mul-pattern Inv-loop μ-loop
 mul-pattern c = search needs
@@ -105,13 +105,13 @@ loop-again c =
     let read = row .before .before in
     let loop = read .before .before .loop in
     let a = start read .args in
-    let m = row .message .result in
+    let m = row .message-row .result in
     let f : SFits w32 (m .sys) = let t = put .before .before .before .struct-told .given in search needs in
     let g : SFits w32 (m .par) = let t = put .before .before .struct-told2 .given in search needs in
     let h : SFits w32 (m .par2) = let t = put .before .struct-told3 .given in search needs in
     let more : 3 * (loop .k + 1) ≡ 3 * loop .k + 3 = omega arith in
     let b = loop .inv .3 in
-    let is = message-said _ _ (loop .k) _ m (start read .pre .0) (omega (arith, loop .inv .1, read .before .loop-test .taken)) (piece-is 10 b (read .next-at2 .ensures)) (row .message .ensures) in (
+    let is = message-read _ _ (loop .k) _ m (start read .pre .0) (omega (arith, loop .inv .1, read .before .loop-test .taken)) (piece-is 10 b (read .next-at2 .ensures)) (row .message-row .ensures) in (
       omega arith,
       simp length-set (loop .inv .1),
       put .put3 .kept .0 ∙ loop .inv .2,
@@ -145,10 +145,10 @@ read-messages-spec =
     add-from
     loop-holds
     next-at-requires-2
-    sub-message
-    part-message-start
-    part-message-end
-    message-requires
+    sub-message-row
+    part-message-row-start
+    part-message-row-end
+    message-row-requires
     mul-pattern
     slice-write-pattern
     mul-put3

@@ -11,8 +11,8 @@ use Rattle.integers.specs.laws.Laws.{within-sum}
 use Rattle.integers.specs.laws.Linear.{ints, plain}
 use Rattle.trellis.specs.laws.MaxPlus.{plus}
 use Rattle.trellis.specs.laws.Sizes.{small-known}
-use Rattle.siso.specs.laws.Held.{held}
-use Rattle.siso.proofs.Held.{held-none, held-some, held-small}
+use Rattle.metrics.specs.Words.{held}
+use Rattle.metrics.specs.laws.Held.{held-none, held-some, held-small}
 use Rattle.siso.proofs.metric.plus.Statement.{statement}
 use Rattle.siso.proofs.metric.plus.Tie as tie
 

@@ -11,8 +11,8 @@ use Rattle.integers.specs.laws.Laws.{within-more, within-sum}
 use Rattle.integers.specs.laws.Linear.{ints, plain}
 use Rattle.trellis.specs.laws.MaxPlus.{plus, plus-comm, plus-assoc}
 use Rattle.trellis.specs.laws.Sizes.{small-known, small-more}
-use Rattle.siso.specs.laws.Held.{held}
-use Rattle.siso.proofs.Held.{held-none, held-some}
+use Rattle.metrics.specs.Words.{held}
+use Rattle.metrics.specs.laws.Held.{held-none, held-some}
 use Rattle.siso.proofs.metric.through.Statement.{statement}
 use Rattle.siso.proofs.metric.through.Tie as tie
 

@@ -10,8 +10,8 @@ use lib.Pow.{pow-mono}
 use borrow.Author.Needs.{needs}
 use borrow.Author.Tests.{not-true, not-false}
 use Rattle.lists.specs.laws.Lending.{front-long}
-use Rattle.trellis.specs.Table.{tableOf}
 use Rattle.trellis.specs.Outcome.{pathless}
+use Rattle.siso.specs.Lent.{passTable}
 use Rattle.siso.specs.laws.Passed.{table-limits}
 use Rattle.siso.specs.laws.Settled.{reached-is, settled-none, settled-done}
 use Rattle.siso.proofs.pass.run.Statement.{statement}
@@ -26,9 +26,9 @@ word-count-requires : tie.Need-word-count-requires
 word-count-requires c κs = search needs
 
 -- there are at most four outputs
-counted : (c : tie.After-word-count) → c .word-count .result ≡ 2 ^ start c .args .outputs
+counted : (c : tie.After-word-count) → c .word-count .result ≡ 2 ^ start c .args .format .outputs
 counted c =
-    let few : min (start c .args .outputs) 4 ≡ start c .args .outputs = omega (arith, table-limits (start c .pre .0)) in
+    let few : min (start c .args .format .outputs) 4 ≡ start c .args .format .outputs = omega (arith, table-limits (start c .pre .0)) in
     rw few at (c .word-count .ensures)
 
 array-borrow-prefix-of-words : tie.Need-array-borrow-prefix-of-words
@@ -56,15 +56,15 @@ swept c = c .before .before .before .before .before .before .before .before
 told :
     (c : tie.After-gather-all)
     → let args = begun c .args in
-    pathless (tableOf (args .states) (args .outputs) (args .next .now) (args .words .now)) (args .end) (args .sections) ≡ not (c .gather-all .result)
-told c = reached-is (begun c .pre .0) (begun c .args .end) ∙ ap not (sym (c .gather-all .ensures .0 .reached))
+    pathless (passTable (args .format) (args .next .now) (args .words .now)) (args .format .end) (args .format .sections) ≡ not (c .gather-all .result)
+told c = reached-is (begun c .pre .0) (begun c .args .format .end) ∙ ap not (sym (c .gather-all .ensures .0 .reached))
 
 clear-requires : tie.Need-clear-requires
 clear-requires c κs = search needs
 
 -- the working list is cleared
 zeros : (c : tie.After-clear) → c .clear .last .0 ≡ replicate (length (begun (swept c) .args .work .now)) (pos 0)
-zeros c = c .clear .ensures ∙ ap (λ n. replicate n (pos 0)) (swept c .gather-all .kept .1 .1 .1 .1 .1 .1 .1 .1 .1 .1 .1 .1 .0)
+zeros c = c .clear .ensures ∙ ap (λ n. replicate n (pos 0)) (swept c .gather-all .kept .1 .1 .1 .1 .1 .1 .1 .1 .1 .0)
 
 same-length : tie.Need-same-length
 same-length c = search needs

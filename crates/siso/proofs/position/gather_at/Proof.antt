@@ -15,7 +15,7 @@ use borrow.Author.Needs.{needs}
 use Rattle.integers.specs.laws.Linear.{fits-of}
 use Rattle.trellis.specs.declared.Position.{Position}
 use Rattle.trellis.specs.Outcome.{larger, outcomeOf, positionOf, mark, margin}
-use Rattle.siso.specs.laws.Held.{held}
+use Rattle.metrics.specs.Words.{held}
 use Rattle.siso.specs.laws.Told.{before, raised, markAt, marginAt, extrinsicAt, LeftAt}
 use Rattle.siso.proofs.position.gather_at.Statement.{statement}
 use Rattle.siso.proofs.position.gather_at.Tie as tie

@@ -19,7 +19,8 @@ use Rattle.trellis.specs.Outcome.{larger}
 use Rattle.trellis.specs.laws.MaxPlus.{plus-comm}
 use Rattle.trellis.specs.laws.Over.{over-zero}
 use Rattle.trellis.specs.laws.Sweeps.{departing, retreat, passing}
-use Rattle.siso.specs.laws.Held.{held, row, rowAt, targetOf, branchMetricOf, bestOf, Branches}
+use Rattle.metrics.specs.Words.{held, row, rowAt}
+use Rattle.siso.specs.laws.Held.{targetOf, branchMetricOf, bestOf, Branches}
 use Rattle.siso.proofs.Branch.{state-small, Read, ready-branches, branch-read, branch-small}
 use Rattle.siso.proofs.Rows.{kept, one-more}
 use Rattle.siso.proofs.Steps.{over-more}

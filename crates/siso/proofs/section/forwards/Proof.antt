@@ -19,9 +19,10 @@ use Rattle.integers.specs.laws.Linear.{plain, fits-of}
 use Rattle.trellis.specs.Outcome.{larger}
 use Rattle.trellis.specs.laws.MaxPlus.{plus}
 use Rattle.trellis.specs.laws.Sweeps.{advance}
-use Rattle.siso.specs.laws.Held.{held, row, targetOf, branchMetricOf, Branches, Saved}
+use Rattle.metrics.specs.Words.{held, row}
+use Rattle.siso.specs.laws.Held.{targetOf, branchMetricOf, Branches, Saved}
 use Rattle.siso.proofs.Branch.{state-small, Read, ready-branches, branch-read, branch-small}
-use Rattle.siso.proofs.Held.{unreached}
+use Rattle.metrics.specs.laws.Held.{unreached}
 use Rattle.siso.proofs.Rows.{kept}
 use Rattle.siso.proofs.Steps.{advance-none, advanced}
 use Rattle.siso.proofs.Working.{saved-none, saved-more}

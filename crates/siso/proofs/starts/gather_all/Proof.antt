@@ -11,27 +11,27 @@ use lib.ListN.{length}
 use borrow.Author.Needs.{needs}
 use Rattle.lists.specs.Lists.{found}
 use Rattle.trellis.specs.declared.End.{End}
-use Rattle.trellis.specs.Table.{Table, tableOf}
+use Rattle.trellis.specs.Table.{Table}
 use Rattle.trellis.specs.Path.{Values}
 use Rattle.trellis.specs.laws.Over.{over, over-none}
 use Rattle.trellis.specs.laws.Sweeps.{starts, reachFrom}
-use Rattle.siso.specs.Lent.{valuesOf}
-use Rattle.siso.specs.laws.Pass.{Pass, Stage, AreKept}
+use Rattle.siso.specs.Lent.{valuesOf, passTable}
+use Rattle.siso.specs.laws.Pass.{Pass, Stage, ListsKept}
 use Rattle.siso.specs.laws.Passed.{table-limits, start-below}
 use Rattle.siso.proofs.Gathering.{reached-more}
 use Rattle.siso.proofs.starts.gather_all.Statement.{statement}
 use Rattle.siso.proofs.starts.gather_all.Tie as tie
 
 abbrev Inv-loop : tie.InvT-loop
-Inv-loop states outputs next words end sections channel apriori marks₀ margins₀ extrinsics₀ g₀ work₀ count any₀ start₀ marks margins extrinsics g work any start =
+Inv-loop format next words channel apriori marks₀ margins₀ extrinsics₀ g₀ work₀ count any₀ start₀ marks margins extrinsics g work any start =
     (start ≤ count)
-    × (length g ≡ 2 ^ outputs)
-    × (length work ≡ (sections + 1) * states)
-    × Stage (tableOf states outputs next words) (valuesOf channel apriori) end sections start any marks margins extrinsics
-    × (any ≡ false → AreKept marks₀ margins₀ extrinsics₀ marks margins extrinsics)
+    × (length g ≡ 2 ^ format .outputs)
+    × (length work ≡ (format .sections + 1) * format .states)
+    × Stage (passTable format next words) (valuesOf channel apriori) (format .end) (format .sections) start any marks margins extrinsics
+    × (any ≡ false → ListsKept marks₀ margins₀ extrinsics₀ marks margins extrinsics)
 
 abbrev μ-loop : tie.MeasureT-loop
-μ-loop states outputs next words end sections channel apriori marks₀ margins₀ extrinsics₀ g₀ work₀ count any₀ start₀ marks margins extrinsics g work any start =
+μ-loop format next words channel apriori marks₀ margins₀ extrinsics₀ g₀ work₀ count any₀ start₀ marks margins extrinsics g work any start =
     count - start
 
 -- ---- from stage to stage
@@ -55,7 +55,7 @@ none-before f a true e none-now =
     absurd (false≢true (sym none-now ∙ reached-more f a ∙ ap (λ b. b || found (f a)) (sym e)))
 
 kept-on :
-    {ms ms′ ms″ : List ℕ} {gs gs′ gs″ es es′ es″ : List ℤ} → AreKept ms gs es ms′ gs′ es′ → AreKept ms′ gs′ es′ ms″ gs″ es″ → AreKept ms gs es ms″ gs″ es″
+    {ms ms′ ms″ : List ℕ} {gs gs′ gs″ es es′ es″ : List ℤ} → ListsKept ms gs es ms′ gs′ es′ → ListsKept ms′ gs′ es′ ms″ gs″ es″ → ListsKept ms gs es ms″ gs″ es″
 kept-on a b = record { marks = b .marks ∙ a .marks; margins = b .margins ∙ a .margins; extrinsics = b .extrinsics ∙ a .extrinsics }
 
 -- ---- names for what is known at the loop's head
@@ -64,10 +64,10 @@ abbrev begun : tie.At-loop Inv-loop μ-loop → tie.Start Inv-loop μ-loop
 begun at = at .before .before .before .before .before
 
 pass : (at : tie.At-loop Inv-loop μ-loop)
-    → let args = begun at .args in Pass (tableOf (args .states) (args .outputs) (args .next .now) (args .words .now)) (args .sections) (valuesOf (args .channel .now) (args .apriori .now))
+    → let args = begun at .args in Pass (passTable (args .format) (args .next .now) (args .words .now)) (args .format .sections) (valuesOf (args .channel .now) (args .apriori .now))
 pass at = begun at .pre .0
 
-is-start : (c : tie.In-loop Inv-loop μ-loop) → c .before .loop .start < starts (begun (c .before) .args .states) (begun (c .before) .args .end)
+is-start : (c : tie.In-loop Inv-loop μ-loop) → c .before .loop .start < starts (begun (c .before) .args .format .states) (begun (c .before) .args .format .end)
 is-start c = rw (c .before .before .starts .ensures) at (c .loop-test .taken)
 
 -- ---- the needs
@@ -113,8 +113,8 @@ loop-again c =
     let turn = turn-of c in
     let inv = turn .before .loop .inv in (
       omega (arith, turn .loop-test .taken),
-      more .kept .1 .1 .1 .1 .1 .1 .1 .1 .1 .1 .1 .1 .1 .0 ∙ inv .1,
-      more .kept .1 .1 .1 .1 .1 .1 .1 .1 .1 .1 .1 .1 .1 .1 .0 ∙ inv .2,
+      more .kept .1 .1 .1 .1 .1 .1 .1 .1 .1 .1 .0 ∙ inv .1,
+      more .kept .1 .1 .1 .1 .1 .1 .1 .1 .1 .1 .1 .0 ∙ inv .2,
       more .ensures .0,
       λ none-now.
           kept-on

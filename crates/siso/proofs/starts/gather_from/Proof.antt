@@ -11,11 +11,11 @@ use borrow.Author.Needs.{needs}
 use borrow.Author.Tests.{eqb-true, eq-eqb, ne-eqb, not-true, not-false}
 use Rattle.lists.specs.Lists.{found}
 use Rattle.trellis.specs.declared.End.{End}
-use Rattle.trellis.specs.Table.{Table, tableOf}
+use Rattle.trellis.specs.Table.{Table}
 use Rattle.trellis.specs.Path.{Values}
 use Rattle.trellis.specs.laws.Over.{over}
 use Rattle.trellis.specs.laws.Sweeps.{starts, reachFrom}
-use Rattle.siso.specs.Lent.{valuesOf}
+use Rattle.siso.specs.Lent.{valuesOf, passTable}
 use Rattle.siso.specs.laws.Pass.{Pass, Bests, Last, Stage}
 use Rattle.siso.specs.laws.Passed.{table-limits, start-below}
 use Rattle.siso.specs.laws.Settled.{reached-is}
@@ -45,29 +45,29 @@ abbrev begun : tie.After-forward → tie.Start
 begun f = f .before .before .before .before .before .before
 
 abbrev table : tie.After-forward → Table
-table f = let args = begun f .args in tableOf (args .states) (args .outputs) (args .next .now) (args .words .now)
+table f = let args = begun f .args in passTable (args .format) (args .next .now) (args .words .now)
 
 abbrev values : tie.After-forward → Values
 values f = let args = begun f .args in valuesOf (args .channel .now) (args .apriori .now)
 
-pass : (f : tie.After-forward) → Pass (table f) (begun f .args .sections) (values f)
+pass : (f : tie.After-forward) → Pass (table f) (begun f .args .format .sections) (values f)
 pass f = begun f .pre .0
 
-is-start : (f : tie.After-forward) → begun f .args .start < starts (begun f .args .states) (begun f .args .end)
+is-start : (f : tie.After-forward) → begun f .args .start < starts (begun f .args .format .states) (begun f .args .format .end)
 is-start f = begun f .pre .1 .0
 
 stage :
     (f : tie.After-forward)
     → let args = begun f .args in
-    Stage (table f) (values f) (args .end) (args .sections) (args .start) (args .any) (args .marks .now) (args .margins .now) (args .extrinsics .now)
+    Stage (table f) (values f) (args .format .end) (args .format .sections) (args .start) (args .any) (args .marks .now) (args .margins .now) (args .extrinsics .now)
 stage f = begun f .pre .1 .1 .1 .1
 
 -- the lists that the forward sweep was lent have their lengths still
-words-length : (f : tie.After-forward) → length (f .forward .last .1 .1 .1 .1 .1 .1 .1 .1 .1 .0) ≡ 2 ^ begun f .args .outputs
-words-length f = f .forward .kept .1 .1 .1 .1 .1 .1 .1 .1 .1 .0 ∙ begun f .pre .1 .1 .0
+words-length : (f : tie.After-forward) → length (f .forward .last .1 .1 .1 .1 .1 .1 .0) ≡ 2 ^ begun f .args .format .outputs
+words-length f = f .forward .kept .1 .1 .1 .1 .1 .1 .0 ∙ begun f .pre .1 .1 .0
 
-work-length : (f : tie.After-forward) → length (f .forward .last .1 .1 .1 .1 .1 .1 .1 .1 .1 .1 .0) ≡ (begun f .args .sections + 1) * begun f .args .states
-work-length f = f .forward .kept .1 .1 .1 .1 .1 .1 .1 .1 .1 .1 .0 ∙ begun f .pre .1 .1 .1 .0
+work-length : (f : tie.After-forward) → length (f .forward .last .1 .1 .1 .1 .1 .1 .1 .0) ≡ (begun f .args .format .sections + 1) * begun f .args .format .states
+work-length f = f .forward .kept .1 .1 .1 .1 .1 .1 .1 .0 ∙ begun f .pre .1 .1 .1 .0
 
 abbrev forwarded : tie.After-either → tie.After-forward
 forwarded e = e .before .before .before
@@ -77,7 +77,7 @@ some-path :
     (e : tie.After-either)
     → let f = forwarded e in
     let args = begun f .args in
-    e .either .result ≡ found (over (args .start + 1) (reachFrom (table f) (values f) (args .end) (args .sections)))
+    e .either .result ≡ found (over (args .start + 1) (reachFrom (table f) (values f) (args .format .end) (args .format .sections)))
 some-path e =
     let f = forwarded e in
     e .either .ensures ∙ ap₂ _||_ (stage f .reached) (f .forward .ensures .1) ∙ sym (reached-more _ (begun f .args .start))
@@ -173,9 +173,9 @@ returns-2 c =
     let f = forwarded e in
     let count = counted .starts .ensures in (
       record {
-        marks-long = g .gather .kept .1 .1 .1 .1 .1 .1 .1 .1 .1 .1 .1 .0 ∙ stage f .marks-long;
-        margins-long = g .gather .kept .1 .1 .1 .1 .1 .1 .1 .1 .1 .1 .1 .1 .0 ∙ stage f .margins-long;
-        extrinsics-long = g .gather .kept .1 .1 .1 .1 .1 .1 .1 .1 .1 .1 .1 .1 .1 .0 ∙ stage f .extrinsics-long;
+        marks-long = g .gather .kept .1 .1 .1 .1 .1 .1 .1 .1 .0 ∙ stage f .marks-long;
+        margins-long = g .gather .kept .1 .1 .1 .1 .1 .1 .1 .1 .1 .0 ∙ stage f .margins-long;
+        extrinsics-long = g .gather .kept .1 .1 .1 .1 .1 .1 .1 .1 .1 .1 .0 ∙ stage f .extrinsics-long;
         reached = sym (not-false _ (counted .before .if1 .left)) ∙ some-path e;
         bests = λ q l. g .gather .ensures .0 (ne-eqb (begun f .args .start + 1) (counted .starts .result) (λ same. omega (arith, same, count)));
         written = λ q same. g .gather .ensures .1 (eq-eqb _ _ (same ∙ sym count));
