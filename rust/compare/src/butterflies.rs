@@ -39,7 +39,7 @@ fn renumbered(d: &mut Draw, t: &mut Table) {
 }
 
 // Breaks a rule of butterflies, or several: each is broken alone now and then.
-fn spoil(d: &mut Draw, t: &mut Table) {
+fn damage(d: &mut Draw, t: &mut Table) {
     let (at, s) = (d.below(2 * t.states), d.below(t.states));
     match d.below(11) {
         0 | 1 => t.next[at] = another(d, t.next[at], t.states),
@@ -69,7 +69,7 @@ fn table(d: &mut Draw) -> Table {
     let states = if d.chance(12) { d.of(&[2, 6, 10, 12, 14]) } else { d.of(&[4, 8, 16]) };
     let mut t = butterfly(d, states);
     if d.below(5) < 2 {
-        spoil(d, &mut t);
+        damage(d, &mut t);
     }
     t
 }
@@ -100,7 +100,7 @@ fn signed(bit: u8, size: i16) -> i16 {
     if bit == 1 { size } else { -size }
 }
 
-// The channel and a-priori values of a path, as loud as can be: its metric grows by the most that a section can add.
+// The channel and a-priori values of a path, as large as can be: its metric grows by the most that a section can add.
 fn of_path(d: &mut Draw, t: &Table, sections: usize) -> (Vec<i16>, Vec<i16>) {
     let (mut channel, mut apriori) = (Vec::new(), Vec::new());
     let mut s = if d.chance(2) { 0 } else { d.below(t.states) };
@@ -115,7 +115,7 @@ fn of_path(d: &mut Draw, t: &Table, sections: usize) -> (Vec<i16>, Vec<i16>) {
 
 fn values(d: &mut Draw, t: &Table, sections: usize) -> (Vec<i16>, Vec<i16>) {
     match d.below(6) {
-        // All values as loud as can be and of one sign, or those of each list.
+        // All values as large as can be and of one sign, or those of each list.
         0 => {
             let sides: [i16; 2] = d.of(&[[1, 1], [-1, -1], [1, -1], [-1, 1]]);
             (vec![1023 * sides[0]; t.outputs * sections], vec![8191 * sides[1]; sections])
@@ -150,7 +150,7 @@ fn frame(d: &mut Draw) -> Frame {
     Frame { table, ends: draw::ends(d), bits, tail, pattern: draw::permutation(d, bits), masks: draw::masks(d) }
 }
 
-// All values as loud as can be, of one sign or those of a message; or others.
+// All values as large as can be, of one sign or those of a message; or others.
 fn received(d: &mut Draw, frame: &Frame) -> Vec<i16> {
     match d.below(4) {
         0 => vec![d.of(&[-1023, 1023]); frame.length()],

@@ -114,7 +114,7 @@ pub fn lone_decoded(d: &mut Draw, call: &lone::Call, lent: lone::Lent) -> Answer
     x.add(work.check(work_after(asked_number, lent.work).as_deref()));
     x.add(index.check(Some(&[asked_index])));
     // the plain side's recursion against a listing of all paths
-    if (asked_number == 0 || asked_number == 12) && call.sections <= 10 {
+    if (asked_number == 0 || asked_number == 12) && call.sections <= 12 {
         let by_paths = listing::pass(t, call.end, call.sections, &call.channel, &call.apriori);
         let by_recursion = lone::pass(t, call.end, call.sections, &call.channel, &call.apriori);
         if by_paths != by_recursion {
@@ -329,6 +329,22 @@ pub fn decode_long(d: &mut Draw, index: u64) -> Answer {
 }
 
 pub fn decode_damaged(d: &mut Draw, frame: Frame, received: Vec<i16>, iterations: usize, faults: usize) -> Answer {
+    let (call, lent) = damaged(d, frame, received, iterations, faults);
+    decoded(d, &call, lent)
+}
+
+// Small frames against passes that write every path out; most are very small, since a pass of N sections has up to 2^N paths from each start.
+pub fn decode_listed(d: &mut Draw) -> Answer {
+    let iterations = if d.chance(16) { d.size(1, 32) } else { d.size(1, 4) };
+    let most = d.of(&[5, 5, 5, 5, 5, 8, 8, 8, 8, 12]);
+    let ends = draw::ends(d);
+    let (frame, faults) = (draw::frame(d, ends, most), faults(d));
+    let received = received(d, &frame);
+    let (call, lent) = damaged(d, frame, received, iterations, faults);
+    decoded_as(d, &call, lent, &frame_decoder::decode_listed(&call, lent))
+}
+
+fn damaged(d: &mut Draw, frame: Frame, received: Vec<i16>, iterations: usize, faults: usize) -> (frame_decoder::Call, frame_decoder::Lent) {
     let mut lent = lent_for(&frame);
     let mut call = frame_decoder::Call { frame, received, iterations };
     for _ in 0..faults {
@@ -349,7 +365,7 @@ pub fn decode_damaged(d: &mut Draw, frame: Frame, received: Vec<i16>, iterations
             _ => lent.work = draw::off(d, lent.work),
         }
     }
-    decoded(d, &call, lent)
+    (call, lent)
 }
 
 // Values out of range, alone or beside a fault whose number stands after 6. Without right masks the frame's list may have any length.
@@ -379,7 +395,13 @@ pub fn decode_values(d: &mut Draw) -> Answer {
 }
 
 pub fn decoded(d: &mut Draw, call: &frame_decoder::Call, lent: frame_decoder::Lent) -> Answer {
-    let asked = frame_decoder::decode(call, lent);
+    decoded_as(d, call, lent, &frame_decoder::decode(call, lent))
+}
+
+// What the plain side asks for, by whichever of its decoders.
+type Asked = Result<frame_decoder::Lists, Refused>;
+
+fn decoded_as(d: &mut Draw, call: &frame_decoder::Call, lent: frame_decoder::Lent, asked: &Asked) -> Answer {
     let (f, t) = (&call.frame, &call.frame.table);
 
     let next = List::of("next", d, &t.next);
@@ -412,7 +434,7 @@ pub fn decoded(d: &mut Draw, call: &frame_decoder::Call, lent: frame_decoder::Le
         &mut index.entries_mut()[0],
     );
 
-    let (asked_number, asked_index) = asked_reply(&asked);
+    let (asked_number, asked_index) = asked_reply(asked);
     let results = asked.as_ref().ok();
     let mut x = Differences::new(number, asked_number);
     x.add(next.check(None));

@@ -1,25 +1,29 @@
 //! Random calls of the static library against the plain receiver: tables of every size, frames short and long, sheets of every K, valid and
-//! damaged calls, each end and each pair of ends; sheets with the answers that document 01 asks for; every table from taps, every polynomial pattern
-//! of up to 200 entries, and frames over such tables; butterflies, and tables close to one. The number returned, the index told with it, every list
-//! written, every list read and what stands beside each list are compared. Exit status 1 on any difference, or where a number that an entry can
-//! give, by any end or pair of ends too, or a line that it must tell, was never given, or where one was given that it must not give.
+//! damaged calls, each end and each pair of ends; small frames against passes that write every path out; frames whose values have the right signs;
+//! calls and sheets with their answers written out; every table from taps, every polynomial pattern of up to 200 entries, and frames over such
+//! tables; butterflies, and tables close to one. The number returned, the index told with it, every list written, every list read and what stands
+//! beside each list are compared. Exit status 1 on any difference, or where a number that an entry can give, by any end or pair of ends too, or a
+//! line that it must tell, was never given, or where one was given that it must not give.
 //!
-//!     compare                   120,000 short calls and 261 long ones; 20,000 with values out of range; all 680 tables from taps and 20,000
+//!     compare                   120,000 short calls and 261 long ones; 10,000 small frames by all their paths; 2,000 right-signed frames after 1 to
+//!                               8 iterations; 105 calls with their answers; 20,000 with values out of range; all 680 tables from taps and 20,000
 //!                               damaged calls for one; the patterns of all 2,686,700 polynomials with K up to 200, and 20,000 drawn and damaged
 //!                               ones up to 4,096; 20,000 frames over tables from taps; 60,000 passes and 20,000 frames over butterflies and
-//!                               tables close to one; 1,024 sheets of every K, 515 with a fault in each line, 16,383 with each set of loud
-//!                               values of a small sheet, 1,544 with each value of the largest loud, 35,000 damaged ones; hints on 40,000
-//!                               drawn texts and 10,000 damaged sheets
+//!                               tables close to one; 1,024 sheets of every K, 515 with a fault in each line, 16,383 with each set of
+//!                               values of a small sheet out of range, 1,544 with each value of the largest, 35,000 damaged ones; hints on
+//!                               40,000 drawn texts and 10,000 damaged sheets
 //!     compare --long            twenty times the calls
 //!     compare --seed N          other calls; the seed is printed
 //!     compare --only STAGE      one stage
 //!     compare --call STAGE I    one call again, by the index that a difference names
 mod butterflies;
+mod call_cases;
 mod calls;
 mod draw;
 mod ends;
 mod hints;
 mod lent;
+mod right_signed;
 mod sheet_cases;
 mod sheet_faults;
 mod sheets;
@@ -43,7 +47,7 @@ struct Stage {
     all: bool,
     // The lines that must each be told with 1, and those with 6.
     lines: Range<usize>,
-    loud: Range<usize>,
+    value_lines: Range<usize>,
     // How many places ends have, each of which must be answered by 0; none where ends are not asked for.
     ends: usize,
     // There are no more calls than these.
@@ -51,13 +55,14 @@ struct Stage {
 }
 
 // What most stages have in common.
-const EACH: Stage = Stage { name: "", calls: 0, run: |_, _| unreachable!(), numbers: &[], all: true, lines: 0..0, loud: 0..0, ends: 0, once: false };
+const EACH: Stage = Stage { name: "", calls: 0, run: |_, _| unreachable!(), numbers: &[], all: true, lines: 0..0, value_lines: 0..0, ends: 0, once: false };
 
 const LONE: &[u32] = &[0, 2, 3, 4, 5, 6, 12, 16];
 const CODER: &[u32] = &[0, 2, 3, 4, 5, 7, 8, 9, 11, 14];
 const DECODER: &[u32] = &[0, 2, 3, 4, 5, 6, 8, 9, 10, 11, 12, 13];
 const TABLE: &[u32] = &[0, 2, 15];
 const PATTERN: &[u32] = &[0, 4, 5, 8, 15];
+const CALLS: &[u32] = &[0, 2, 3, 4, 5, 6, 7, 8, 9, 10, 11, 12, 13, 14, 15, 16];
 const SHEET: &[u32] = &[0, 1, 6, 8];
 // Hints have numbers of their own.
 const HINT: &[u32] = &[0, 1, 2, 3, 4, 5, 6, 7, 8, 9];
@@ -67,6 +72,10 @@ const STAGES: &[Stage] = &[
     Stage { name: "lone", calls: 40_000, run: |d, _| calls::lone_decode(d), numbers: LONE, ends: SINGLE, ..EACH },
     Stage { name: "coder", calls: 40_000, run: |d, _| calls::encode(d), numbers: CODER, ends: PAIRS, ..EACH },
     Stage { name: "decoder", calls: 40_000, run: |d, _| calls::decode(d), numbers: DECODER, ends: PAIRS, ..EACH },
+    Stage { name: "decoder-listed", calls: 10_000, run: |d, _| calls::decode_listed(d), numbers: DECODER, ends: PAIRS, ..EACH },
+    // A coded frame has a path, so never 12.
+    Stage { name: "right-signed", calls: 2_000, run: |d, _| right_signed::after_each(d), numbers: &[0, 13], all: false, ends: PAIRS, ..EACH },
+    Stage { name: "call-cases", calls: call_cases::CASES.len() as u64, run: call_cases::case, numbers: CALLS, once: true, ..EACH },
     Stage { name: "lone-values", calls: 10_000, run: |d, _| calls::lone_values(d), numbers: &[6, 16], ..EACH },
     Stage { name: "decoder-values", calls: 10_000, run: |d, _| calls::decode_values(d), numbers: &[6], ..EACH },
     Stage { name: "lone-long", calls: 99, run: calls::lone_long, numbers: LONE, all: false, ends: SINGLE, ..EACH },
@@ -81,12 +90,12 @@ const STAGES: &[Stage] = &[
     Stage { name: "taps-decoder", calls: 10_000, run: |d, _| taps::decode(d), numbers: &[0], ..EACH },
     Stage { name: "butterflies", calls: 60_000, run: |d, _| butterflies::lone_decode(d), numbers: LONE, ends: SINGLE, ..EACH },
     Stage { name: "butterflies-decoder", calls: 20_000, run: |d, _| butterflies::decode(d), numbers: DECODER, ends: PAIRS, ..EACH },
-    Stage { name: "sheet-cases", calls: CASES.len() as u64, run: sheets::case, numbers: SHEET, lines: 0..5, loud: 2..5, once: true, ..EACH },
+    Stage { name: "sheet-cases", calls: CASES.len() as u64, run: sheets::case, numbers: SHEET, lines: 0..5, value_lines: 2..5, once: true, ..EACH },
     Stage { name: "sheet", calls: 1_024, run: |d, i| sheets::valid(d, i as usize % 512 + 1), numbers: &[0], ..EACH },
     Stage { name: "sheet-lines", calls: 515, run: |d, i| sheets::faulty(d, i as usize % 515), numbers: &[1], lines: 1..516, ..EACH },
-    Stage { name: "sheet-loud", calls: sheets::LOUD_SETS, run: sheets::loud_set, numbers: &[6], loud: 2..6, ..EACH },
-    Stage { name: "sheet-loud-lines", calls: sheets::LOUD_PLACES, run: sheets::loud_place, numbers: &[6], loud: 2..516, ..EACH },
-    Stage { name: "sheet-damaged", calls: 35_000, run: sheets::damaged, numbers: SHEET, lines: 0..9, loud: 2..9, ..EACH },
+    Stage { name: "sheet-values", calls: sheets::VALUE_SETS, run: sheets::value_set, numbers: &[6], value_lines: 2..6, ..EACH },
+    Stage { name: "sheet-values-lines", calls: sheets::VALUE_PLACES, run: sheets::value_place, numbers: &[6], value_lines: 2..516, ..EACH },
+    Stage { name: "sheet-damaged", calls: 35_000, run: sheets::damaged, numbers: SHEET, lines: 0..9, value_lines: 2..9, ..EACH },
     Stage { name: "hints", calls: 40_000, run: |d, _| hints::drawn(d), numbers: HINT, ..EACH },
     Stage { name: "hints-damaged", calls: 10_000, run: hints::damaged, numbers: HINT, all: false, ..EACH },
 ];
@@ -110,14 +119,14 @@ fn number(word: Option<String>) -> u64 {
 // Runs a stage and says whether all is well.
 fn run(s: &Stage, seed: u64, times: u64) -> bool {
     let calls = if s.once { s.calls } else { s.calls * times };
-    let (mut given, mut lines, mut loud) = (vec![0u64; NUMBERS as usize + 1], vec![0u64; 1 << 10], vec![0u64; 1 << 10]);
+    let (mut given, mut lines, mut value_lines) = (vec![0u64; NUMBERS as usize + 1], vec![0u64; 1 << 10], vec![0u64; 1 << 10]);
     let mut by_ends = vec![vec![0u64; NUMBERS as usize + 1]; s.ends + 1];
     let (mut differing, mut told) = (0, Instant::now());
     for i in 0..calls {
         let answer = (s.run)(&mut Draw::for_call(seed, s.name, i), i);
         given[answer.number.min(NUMBERS) as usize] += 1;
         lines[answer.line.min(1023)] += (answer.number == 1) as u64;
-        loud[answer.line.min(1023)] += (answer.number == 6) as u64;
+        value_lines[answer.line.min(1023)] += (answer.number == 6) as u64;
         by_ends[answer.ends.unwrap_or(s.ends).min(s.ends)][answer.number.min(NUMBERS) as usize] += 1;
         if !answer.differences.is_empty() {
             differing += 1;
@@ -132,7 +141,7 @@ fn run(s: &Stage, seed: u64, times: u64) -> bool {
     }
     let counts: Vec<String> = (0..given.len()).filter(|&n| given[n] > 0).map(|n| format!("{n}:{}", given[n])).collect();
     println!("{}: seed {seed}, {calls} calls, {differing} differ; numbers given {}", s.name, counts.join(" "));
-    let lines_told = all_told(s.name, 1, &s.lines, &lines) & all_told(s.name, 6, &s.loud, &loud);
+    let lines_told = all_told(s.name, 1, &s.lines, &lines) & all_told(s.name, 6, &s.value_lines, &value_lines);
     let ends_answered = s.ends == 0 || ends::all_answered(s.name, s.numbers, s.all, &by_ends);
     all_given(s, &given) & lines_told & ends_answered & (differing == 0)
 }

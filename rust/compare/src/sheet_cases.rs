@@ -101,12 +101,12 @@ pub const CASES: &[Case] = &[
     ("D2 another header and a faulty row", || text(&["x", "x", R1, R2]), TEXT_1),
 
     // D3: a faulty line anywhere comes before 6, and 6 before 8
-    ("D3 a loud value above a faulty row", || rows(&["0 0 1024 5 - -", R1, "2 - x 7 3 4"]), TEXT_4),
-    ("D3 a loud value below a faulty row", || rows(&["0 0 x 5 - -", R1, "2 - 1024 7 3 4"]), TEXT_2),
-    ("D3 no pattern, and a loud value", || p2(2, "0 1 1024 5 - -"), VALUE_2),
-    ("D3 no pattern, and a loud value in the last row", || rows(&["0 1 -3 5 - -", R1, "2 - 1 7 3 1024"]), VALUE_4),
+    ("D3 a value out of range above a faulty row", || rows(&["0 0 1024 5 - -", R1, "2 - x 7 3 4"]), TEXT_4),
+    ("D3 a value out of range below a faulty row", || rows(&["0 0 x 5 - -", R1, "2 - 1024 7 3 4"]), TEXT_2),
+    ("D3 no pattern, and a value out of range", || p2(2, "0 1 1024 5 - -"), VALUE_2),
+    ("D3 no pattern, and a value out of range in the last row", || rows(&["0 1 -3 5 - -", R1, "2 - 1 7 3 1024"]), VALUE_4),
     ("D3 no pattern, and a faulty row", || rows(&["0 1 -3 5 - -", R1, "2 - 1 7 3 x"]), TEXT_4),
-    ("D3 a loud value and no last line feed", || open(p2(2, "0 0 1024 5 - -")), TEXT_4),
+    ("D3 a value out of range and no last line feed", || open(p2(2, "0 0 1024 5 - -")), TEXT_4),
     ("D3 two faulty rows", || rows(&[R0, "1 - 2 -4 1 x", "2 - x 7 3 4"]), TEXT_3),
     ("D3 a faulty row and no last line feed", || open(p2(3, "x")), TEXT_3),
     ("D3 the header and every row", || text(&["x", "x", "x", "x"]), TEXT_1),
@@ -137,7 +137,7 @@ pub const CASES: &[Case] = &[
     ("D4 at 0 in the second row", || p2_field(3, AT, "0"), TEXT_3),
     ("D4 at 1 in the last row", || p2_field(4, AT, "1"), TEXT_4),
 
-    // L: 6 is told with the line of the first loud value in reading order, row by row and each from left to right; the frame's list has all of
+    // L: 6 is told with the line of the first value out of range in reading order, row by row and each from left to right; the frame's list has all of
     // tail 1 before tail 2, which stand side by side on the sheet. 1 comes before it, and 8 after it, without a line
     ("L sys 2000 in line 4 and par2 -2000 in line 3",
         || rows(&["0 0 1 1 1 -", "1 1 1 1 -2000 -", "2 2 2000 1 1 -", "3 3 1 1 1 -", "4 - 1 1 1 1", "5 - 1 1 1 1"]), VALUE_3),
@@ -159,10 +159,10 @@ pub const CASES: &[Case] = &[
     ("L par2 of the message row and both tail rows", || p2_fields(&[(2, PAR2, "1024"), (3, SYS2, "1024"), (4, SYS, "1024")]), VALUE_2),
     ("L every value", || rows(&["0 0 1024 1024 1024 -", "1 - 1024 1024 1024 1024", "2 - 1024 1024 1024 1024"]), VALUE_2),
     ("L the last value under 512 positions", || [nothing_sent(512).strip_suffix(b"0\n").unwrap(), b"1024\n"].concat(), "refused line\n6 515\n"),
-    ("L no pattern, and a loud value in line 6",
+    ("L no pattern, and a value out of range in line 6",
         || rows(&["0 0 1 1 1 -", "1 0 1 1 1 -", "2 0 1 1 1 -", "3 - 1 1 1 1", "4 - 1 1 1 1024"]), "refused line\n6 6\n"),
-    ("L a loud value in line 2, and a faulty last row", || p2_fields(&[(2, SYS, "1024"), (4, AT, "3")]), TEXT_4),
-    ("L loud values in lines 3 and 4, and a faulty first row", || p2_fields(&[(2, AT, "1"), (3, SYS2, "1024"), (4, SYS, "1024")]), TEXT_2),
+    ("L a value out of range in line 2, and a faulty last row", || p2_fields(&[(2, SYS, "1024"), (4, AT, "3")]), TEXT_4),
+    ("L values out of range in lines 3 and 4, and a faulty first row", || p2_fields(&[(2, AT, "1"), (3, SYS2, "1024"), (4, SYS, "1024")]), TEXT_2),
     ("L no pattern alone", || p2_field(2, TO, "2"), PATTERN),
 
     // D5: `-` where a number must stand is a fault, and so is a number where `-` must

@@ -25,16 +25,16 @@ pub const KINDS: &[Fault] = &[
     header,
     at,
     pattern,
-    loud,
+    value,
     word,
     dash,
     spelling,
     fields,
     spaces,
-    loud_values,
-    loud_tails,
-    loud_and_pattern,
-    loud_and_line,
+    values_out_of_range,
+    tails_out_of_range,
+    value_and_pattern,
+    value_and_line,
     pattern_and_line,
     two_lines,
     rows_of_words,
@@ -55,7 +55,7 @@ const HEADERS: &[&str] = &[
     "at  to sys par par2 sys2", "at\tto sys par par2 sys2", "at to sys par sys2 par2", "at to sys par par2 sys2\0", "0 0 1 1 1 -",
 ];
 
-// What stands under `sys`, `par` and `par2`, one in twelve too loud.
+// What stands under `sys`, `par` and `par2`, one in twelve out of range.
 const VALUES: [&str; 12] = ["-", "-", "0", "1", "-1", "2", "-7", "30", "-300", "1023", "-1023", "1024"];
 
 // ---- lines and fields
@@ -241,7 +241,7 @@ fn rows_at_the_limits(d: &mut Draw, sheet: &mut Vec<u8>) {
     *sheet = text(&lines(d, bits));
 }
 
-// A sheet of 512 positions that is exactly so long. Its values are loud and its pattern is none: no other rows of a sheet are long enough.
+// A sheet of 512 positions that is exactly so long. Its values are out of range and its pattern is none: no other rows of a sheet are long enough.
 pub fn sized(bytes: usize) -> Vec<u8> {
     let sheet = |digits: &[usize]| {
         let mut lines = vec![HEADER.to_string()];
@@ -298,16 +298,16 @@ fn pattern(d: &mut Draw, sheet: &mut Vec<u8>) {
 }
 
 // A value outside its limits; cut to 16 bits it may be inside.
-pub fn loud_value(d: &mut Draw) -> String {
+pub fn out_of_range(d: &mut Draw) -> String {
     let small = d.within(-1023, 1023);
     d.of(&[1024, -1024, 65_536, 65_536 + small, -65_536 + small, 99_999, -99_999, 32_768, -32_768, 12_345]).to_string()
 }
 
-fn loud(d: &mut Draw, sheet: &mut Vec<u8>) {
+fn value(d: &mut Draw, sheet: &mut Vec<u8>) {
     with_lines(sheet, |lines| {
         let line = d.size(1, lines.len()).min(lines.len() - 1);
         let last = if line + 2 < lines.len() { 4 } else { 5 };
-        put(&mut lines[line], d.size(2, last), &loud_value(d));
+        put(&mut lines[line], d.size(2, last), &out_of_range(d));
     });
 }
 
@@ -363,28 +363,28 @@ fn spaces(d: &mut Draw, sheet: &mut Vec<u8>) {
 // ---- two faults and more
 
 // In any order of rows and fields.
-fn loud_values(d: &mut Draw, sheet: &mut Vec<u8>) {
+fn values_out_of_range(d: &mut Draw, sheet: &mut Vec<u8>) {
     for _ in 0..d.size(2, 6) {
-        loud(d, sheet);
+        value(d, sheet);
     }
 }
 
 // One in each of the last two rows: of tail 1 or of tail 2.
-fn loud_tails(d: &mut Draw, sheet: &mut Vec<u8>) {
+fn tails_out_of_range(d: &mut Draw, sheet: &mut Vec<u8>) {
     with_lines(sheet, |lines| {
         for line in lines.iter_mut().rev().take(2) {
-            put(line, d.size(2, 5), &loud_value(d));
+            put(line, d.size(2, 5), &out_of_range(d));
         }
     });
 }
 
-fn loud_and_pattern(d: &mut Draw, sheet: &mut Vec<u8>) {
+fn value_and_pattern(d: &mut Draw, sheet: &mut Vec<u8>) {
     pattern(d, sheet);
-    loud(d, sheet);
+    value(d, sheet);
 }
 
-fn loud_and_line(d: &mut Draw, sheet: &mut Vec<u8>) {
-    loud(d, sheet);
+fn value_and_line(d: &mut Draw, sheet: &mut Vec<u8>) {
+    value(d, sheet);
     line_broken(d, sheet);
 }
 

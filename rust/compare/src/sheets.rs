@@ -135,40 +135,40 @@ fn place(bits: usize, value: usize) -> (usize, usize) {
     }
 }
 
-// A sheet that is right but for these loud values, and for its pattern in one of four: refused by 6 with the line of the first.
-fn loud(d: &mut Draw, bits: usize, loud_ones: &[usize]) -> Answer {
+// A sheet that is right but for these values, which are out of range, and for its pattern in one of four: refused by 6 with the line of the first.
+fn out_of_range(d: &mut Draw, bits: usize, places: &[usize]) -> Answer {
     let mut lines: Vec<Vec<u8>> = lines(d, bits).into_iter().map(String::into_bytes).collect();
-    for &value in loud_ones {
+    for &value in places {
         let (line, field) = place(bits, value);
-        sheet_faults::put(&mut lines[line], field, &sheet_faults::loud_value(d));
+        sheet_faults::put(&mut lines[line], field, &sheet_faults::out_of_range(d));
     }
     if d.chance(4) {
         sheet_faults::put(&mut lines[1], 1, &bits.to_string());
     }
-    let first = *loud_ones.iter().min().expect("a loud value");
+    let first = *places.iter().min().expect("a value out of range");
     known(d, &text(&lines), &format!("refused line\n6 {}\n", place(bits, first).0 + 1))
 }
 
 const FEW_BITS: usize = 2;
-pub const LOUD_SETS: u64 = (1 << values(FEW_BITS)) - 1;
+pub const VALUE_SETS: u64 = (1 << values(FEW_BITS)) - 1;
 
 // Each set of values of a small sheet but the empty one.
-pub fn loud_set(d: &mut Draw, index: u64) -> Answer {
-    let set = index % LOUD_SETS + 1;
-    let loud_ones: Vec<usize> = (0..values(FEW_BITS)).filter(|value| set >> value & 1 == 1).collect();
-    loud(d, FEW_BITS, &loud_ones)
+pub fn value_set(d: &mut Draw, index: u64) -> Answer {
+    let set = index % VALUE_SETS + 1;
+    let places: Vec<usize> = (0..values(FEW_BITS)).filter(|value| set >> value & 1 == 1).collect();
+    out_of_range(d, FEW_BITS, &places)
 }
 
-pub const LOUD_PLACES: u64 = values(512) as u64;
+pub const VALUE_PLACES: u64 = values(512) as u64;
 
 // Each value of a sheet of the largest size, and often others after it.
-pub fn loud_place(d: &mut Draw, index: u64) -> Answer {
-    let first = (index % LOUD_PLACES) as usize;
-    let mut loud_ones = vec![first];
+pub fn value_place(d: &mut Draw, index: u64) -> Answer {
+    let first = (index % VALUE_PLACES) as usize;
+    let mut places = vec![first];
     for _ in 0..d.of(&[0, 1, 2, 9]) {
-        loud_ones.push(d.size(first, values(512) - 1));
+        places.push(d.size(first, values(512) - 1));
     }
-    loud(d, 512, &loud_ones)
+    out_of_range(d, 512, &places)
 }
 
 // A fault in a line, counted from 0, of a sheet of the largest size, and often in a later line too.

@@ -52,7 +52,7 @@ fn answer(number: u32, mut x: Differences, call: impl std::fmt::Debug) -> Answer
     Answer { number, line: 0, ends: None, differences: x.0 }
 }
 
-fn table(d: &mut Draw, code: Code, lengths: [usize; 2]) -> Answer {
+pub fn table(d: &mut Draw, code: Code, lengths: [usize; 2]) -> Answer {
     let asked = taps::table(&code, lengths);
     let mut next = List::any("next", d, lengths[0]);
     let mut words = List::any("words", d, lengths[1]);
@@ -102,7 +102,7 @@ fn too_large(d: &mut Draw, taps: u32, numbers: usize) -> u32 {
     d.of(&[least, least + 1, least | taps, taps | 256, taps | 1 << 16, taps | 1 << 31, u32::MAX])
 }
 
-fn pattern(d: &mut Draw, p: Polynomial, length: usize) -> Answer {
+pub fn pattern(d: &mut Draw, p: Polynomial, length: usize) -> Answer {
     let asked = taps::pattern(&p, length);
     let mut pattern = List::any("pattern", d, length);
     let number = raw::polynomial_pattern(p.bits, p.f1, p.f2, pattern.entries_mut());

@@ -1,6 +1,6 @@
 //! The frame decoder.
 use crate::lone::{self, Outcome};
-use crate::{rules, End, Frame, Refused};
+use crate::{listing, rules, End, Frame, Refused, Table};
 
 #[derive(Clone, Debug)]
 pub struct Call {
@@ -75,25 +75,28 @@ fn coders(f: &Frame, received: &[i16]) -> [Coder; 2] {
     [Coder { end: f.ends[0], channel: channel1 }, Coder { end: f.ends[1], channel: channel2 }]
 }
 
+// How the outcomes of a pass are found: by the recursion, or by writing every path out.
+type Pass = fn(&Table, End, usize, &[i16], &[i16]) -> Option<Vec<Outcome>>;
+
 // A pass over a coder. `handed` are its first a-priori values; the others are 0.
-fn pass(f: &Frame, c: &Coder, handed: &[i16]) -> Option<Vec<(Outcome, i64)>> {
+fn pass(by: Pass, f: &Frame, c: &Coder, handed: &[i16]) -> Option<Vec<(Outcome, i64)>> {
     let sections = c.channel.len() / 2;
     let mut apriori = handed.to_vec();
     apriori.resize(sections, 0);
-    let outcomes = lone::pass(&f.table, c.end, sections, &c.channel, &apriori)?;
+    let outcomes = by(&f.table, c.end, sections, &c.channel, &apriori)?;
     Some((0..sections).map(|k| (outcomes[k], lone::extrinsic(&f.table, outcomes[k], k, &c.channel, &apriori))).collect())
 }
 
 // 12 and 13, by a pass over each coder: which paths there are depends on no value, so whatever was received and handed over will do.
-fn settled(f: &Frame, coders: &[Coder; 2]) -> Option<u32> {
-    let passes = [pass(f, &coders[0], &[]), pass(f, &coders[1], &[])];
+fn settled(by: Pass, f: &Frame, coders: &[Coder; 2]) -> Option<u32> {
+    let passes = [pass(by, f, &coders[0], &[]), pass(by, f, &coders[1], &[])];
     let forced = |p: &Vec<(Outcome, i64)>| p[..f.bits].iter().any(|(o, _)| matches!(o, Outcome::Forced(_)));
     rules::lowest(&[(12, passes.iter().any(Option::is_none)), (13, passes.iter().flatten().any(forced))])
 }
 
 // The margins and extrinsics of the K message positions of a pass, in its own order.
-fn soft(f: &Frame, c: &Coder, handed: &[i16]) -> Vec<(i64, i64)> {
-    let positions = pass(f, c, handed).expect("a path, as settled");
+fn soft(by: Pass, f: &Frame, c: &Coder, handed: &[i16]) -> Vec<(i64, i64)> {
+    let positions = pass(by, f, c, handed).expect("a path, as settled");
     let free = |&(outcome, extrinsic): &(Outcome, i64)| match outcome {
         Outcome::Free(margin) => (margin, extrinsic),
         Outcome::Forced(_) => unreachable!("a forced position, though settled"),
@@ -104,40 +107,49 @@ fn soft(f: &Frame, c: &Coder, handed: &[i16]) -> Vec<(i64, i64)> {
 fn refused(call: &Call, lent: Lent) -> Result<(), Refused> {
     let f = &call.frame;
     let k = f.bits as u128;
-    let loud = rules::outside(&call.received, rules::CHANNEL_LIMIT);
+    let outside = rules::outside(&call.received, rules::CHANNEL_LIMIT);
     let lists = [(f.pattern.len(), k), (lent.bits, k), (lent.margins, k), (lent.extrinsics, k), (lent.work, f.work())];
     let applying = [
         (2, rules::shape(&f.table) || rules::ends(&f.ends)),
         (3, rules::branch(&f.table)),
         (4, rules::sizes(f)),
         (5, rules::lists(&lists) || rules::frame_list(f, call.received.len())),
-        (6, !loud.is_empty()),
+        (6, !outside.is_empty()),
         (8, rules::pattern(f)),
         (9, rules::mask(f)),
         (10, rules::iterations(call.iterations)),
         (11, rules::coder(f)),
     ];
     match rules::lowest(&applying) {
-        Some(6) => Err(Refused { number: 6, index: loud[0] }),
+        Some(6) => Err(Refused { number: 6, index: outside[0] }),
         Some(number) => Err(number.into()),
         None => Ok(()),
     }
 }
 
 pub fn decode(call: &Call, lent: Lent) -> Result<Lists, Refused> {
+    decode_by(lone::pass, call, lent)
+}
+
+/// The same by passes that write every path out, for few sections.
+pub fn decode_listed(call: &Call, lent: Lent) -> Result<Lists, Refused> {
+    decode_by(listing::pass, call, lent)
+}
+
+fn decode_by(by: Pass, call: &Call, lent: Lent) -> Result<Lists, Refused> {
     refused(call, lent)?;
     let f = &call.frame;
     let coders = coders(f, &call.received);
-    if let Some(number) = settled(f, &coders) {
+    if let Some(number) = settled(by, f, &coders) {
         return Err(number.into());
     }
     // In message order, what pass 2 last handed to pass 1.
     let mut handed_back = vec![0i16; f.bits];
     let mut last = Vec::new();
     for _ in 0..call.iterations {
-        let first = soft(f, &coders[0], &handed_back);
+        let first = soft(by, f, &coders[0], &handed_back);
         let handed_on: Vec<i16> = f.pattern.iter().map(|&p| handed_over(first[p as usize].1)).collect();
-        last = soft(f, &coders[1], &handed_on);
+        last = soft(by, f, &coders[1], &handed_on);
         for (i, &p) in f.pattern.iter().enumerate() {
             handed_back[p as usize] = handed_over(last[i].1);
         }

@@ -164,8 +164,8 @@ pub fn lists(call: &Call, outcomes: &[Outcome]) -> Lists {
 pub fn decode(call: &Call, lent: Lent) -> Result<Lists, Refused> {
     let t = &call.table;
     let n = call.sections as u128;
-    let loud = rules::outside(&call.channel, rules::CHANNEL_LIMIT);
-    let spoiled = rules::outside(&call.apriori, rules::APRIORI_LIMIT);
+    let channel = rules::outside(&call.channel, rules::CHANNEL_LIMIT);
+    let apriori = rules::outside(&call.apriori, rules::APRIORI_LIMIT);
     let applying = [
         (2, rules::shape(t) || rules::ends(&[call.end])),
         (3, rules::branch(t)),
@@ -182,12 +182,12 @@ pub fn decode(call: &Call, lent: Lent) -> Result<Lists, Refused> {
                 (lent.work, (n + 1) * t.states as u128),
             ]),
         ),
-        (6, !loud.is_empty()),
-        (16, !spoiled.is_empty()),
+        (6, !channel.is_empty()),
+        (16, !apriori.is_empty()),
     ];
     match rules::lowest(&applying) {
-        Some(6) => return Err(Refused { number: 6, index: loud[0] }),
-        Some(16) => return Err(Refused { number: 16, index: spoiled[0] }),
+        Some(6) => return Err(Refused { number: 6, index: channel[0] }),
+        Some(16) => return Err(Refused { number: 16, index: apriori[0] }),
         Some(number) => return Err(number.into()),
         None => {}
     }

@@ -114,7 +114,7 @@ fn received(rows: &Rows) -> Vec<i64> {
 
 // The lines of all values out of range, in reading order: line by line from the header on, which is line 1, and each from left to right. The
 // sheet has passed `rows`, so after its first two fields a row has only values and `-`.
-fn loud_lines(sheet: &[u8]) -> Vec<usize> {
+fn lines_out_of_range(sheet: &[u8]) -> Vec<usize> {
     let limit = rules::CHANNEL_LIMIT as i64;
     let text = std::str::from_utf8(sheet).expect("a sheet of text");
     let mut lines = Vec::new();
@@ -131,12 +131,12 @@ fn loud_lines(sheet: &[u8]) -> Vec<usize> {
 /// What the last pass 2 says of each message position, or the refusal.
 pub fn decode(sheet: &[u8]) -> Result<Lists, Refused> {
     let rows = rows(sheet).map_err(|line| Refused { number: 1, line })?;
-    let loud = loud_lines(sheet);
+    let outside = lines_out_of_range(sheet);
     let bits = rows.messages.len();
     let pattern = rows.messages.iter().map(|r| r.to as u32).collect();
     let frame = Frame { table: house::table(), ends: [End::Zero; 2], bits, tail: TAIL, pattern, masks: vec![7] };
-    match rules::lowest(&[(6, !loud.is_empty()), (8, rules::pattern(&frame))]) {
-        Some(6) => return Err(Refused { number: 6, line: loud[0] }),
+    match rules::lowest(&[(6, !outside.is_empty()), (8, rules::pattern(&frame))]) {
+        Some(6) => return Err(Refused { number: 6, line: outside[0] }),
         Some(number) => return Err(Refused { number, line: 0 }),
         None => {}
     }

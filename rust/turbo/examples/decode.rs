@@ -20,8 +20,8 @@ fn main() -> Result<(), Refusal> {
 
     received[5] = 2000;
     match decode(&frame, &received, 8) {
-        Err(refusal @ Refusal::Value { index: 5 }) => println!("one value too loud: {refusal}"),
-        other => panic!("one value too loud: {other:?}"),
+        Err(refusal @ Refusal::Value { index: 5 }) => println!("one value out of range: {refusal}"),
+        other => panic!("one value out of range: {other:?}"),
     }
 
     received.pop();

@@ -154,15 +154,15 @@ fn a_number_that_is_no_end() {
     let (mut marks, mut margins, mut extrinsics, mut work, mut index) = ([77; 1], [77; 1], [77; 1], [77; 2], 77);
     let (mut sent, mut bits) = ([77; 3], [77; 1]);
     for other in [3, 4, 256, 257, 1 << 16, 1 << 31, u32::MAX] {
-        // Everything else is wrong too: two branches to a state that is not there, no section, a loud value, a mask of 8.
-        let (next, words, loud) = ([1, 1], [4, 4], [1024]);
-        let number = raw::lone_decode(1, 1, &next, &words, other, 0, &loud, &loud, &mut marks, &mut margins, &mut extrinsics, &mut work, &mut index);
+        // Everything else is wrong too: two branches to a state that is not there, no section, a value out of range, a mask of 8.
+        let (next, words, values) = ([1, 1], [4, 4], [1024]);
+        let number = raw::lone_decode(1, 1, &next, &words, other, 0, &values, &values, &mut marks, &mut margins, &mut extrinsics, &mut work, &mut index);
         assert_eq!((number, index), (2, 0));
         for (end1, end2) in [(other, 0), (2, other), (other, other)] {
             assert_eq!(raw::encode(1, 1, &next, &words, end1, end2, 0, 5, &[2], &[1], &[8], &mut sent), 2);
             index = 77;
             let number = raw::decode(
-                1, 1, &next, &words, end1, end2, 0, 5, &[1], &[8], &loud, 33, &mut bits, &mut margins, &mut extrinsics, &mut work, &mut index,
+                1, 1, &next, &words, end1, end2, 0, 5, &[1], &[8], &values, 33, &mut bits, &mut margins, &mut extrinsics, &mut work, &mut index,
             );
             assert_eq!((number, index), (2, 0));
         }

@@ -13,19 +13,19 @@ fn lone(channel: &[i16], apriori: &[i16]) -> Result<(), Refusal> {
 #[test]
 fn the_first_value_out_of_range_of_each_list() {
     assert_eq!(lone(&[1023, -1023, 0, 0], &[8191, -8191]), Ok(()));
-    for loud in [1024, -1024, i16::MAX, i16::MIN] {
-        assert_eq!(lone(&[loud, 0, 0, 0], &[0, 0]), Err(Refusal::Value { index: 0 }));
-        assert_eq!(lone(&[0, 0, 0, loud], &[0, 0]), Err(Refusal::Value { index: 3 }));
-        assert_eq!(lone(&[0, loud, loud, 0], &[0, 0]), Err(Refusal::Value { index: 1 }));
+    for value in [1024, -1024, i16::MAX, i16::MIN] {
+        assert_eq!(lone(&[value, 0, 0, 0], &[0, 0]), Err(Refusal::Value { index: 0 }));
+        assert_eq!(lone(&[0, 0, 0, value], &[0, 0]), Err(Refusal::Value { index: 3 }));
+        assert_eq!(lone(&[0, value, value, 0], &[0, 0]), Err(Refusal::Value { index: 1 }));
     }
-    for spoiled in [8192, -8192, i16::MAX, i16::MIN] {
-        assert_eq!(lone(&[0; 4], &[0, spoiled]), Err(Refusal::Apriori { index: 1 }));
-        assert_eq!(lone(&[0; 4], &[spoiled, spoiled]), Err(Refusal::Apriori { index: 0 }));
+    for value in [8192, -8192, i16::MAX, i16::MIN] {
+        assert_eq!(lone(&[0; 4], &[0, value]), Err(Refusal::Apriori { index: 1 }));
+        assert_eq!(lone(&[0; 4], &[value, value]), Err(Refusal::Apriori { index: 0 }));
     }
 }
 
 #[test]
-fn a_loud_channel_comes_before_a_spoiled_apriori_list() {
+fn a_channel_value_comes_before_an_apriori_value() {
     assert_eq!(lone(&[0, 0, 0, 1024], &[8192, 0]), Err(Refusal::Value { index: 3 }));
     // a value that is right in one list is not in the other
     assert_eq!(lone(&[0, 0, 5000, 0], &[0, 5000]), Err(Refusal::Value { index: 2 }));
@@ -83,7 +83,7 @@ fn the_index_is_always_written() {
 }
 
 #[test]
-fn the_line_of_a_loud_value() {
+fn the_line_of_a_value_out_of_range() {
     let four_rows = |line3: &str, line4: &str, line7: &str| {
         sheet(format!("at to sys par par2 sys2\n0 0 1 1 1 -\n{line3}\n{line4}\n3 3 1 1 1 -\n4 - 1 1 1 1\n{line7}\n").as_bytes())
     };
