@@ -57,7 +57,13 @@ fn all_free(marks: &[u8]) -> bool
 }
 
 // The lists of the passes, by their lengths: an entry for each of the pattern's.
-fn passes_fit(pattern: usize, marks1: usize, marks2: usize, margins2: usize, extrinsics2: usize) -> bool
+fn passes_fit(
+    pattern: usize,
+    marks1: usize,
+    marks2: usize,
+    margins2: usize,
+    extrinsics2: usize,
+) -> bool
     ensures { λ r. ⌜
         r ≡ (eqb marks1 pattern && eqb marks2 pattern && eqb margins2 pattern && eqb extrinsics2 pattern) ⌝ }
 {
