@@ -1,7 +1,8 @@
-// Codes the message 1 and decodes a frame of one message bit with the house code.
+// Codes the message 1, decodes a frame of one message bit, and makes one pass over four sections, each with the house code.
 use refusal::Reply;
-use trellis::End;
+use turbo::End;
 use turbo::FrameFormat;
+use turbo::PassFormat;
 
 // The house code, one message bit, both coders ending at zero with two tail sections.
 fn one_bit() -> FrameFormat {
@@ -47,11 +48,40 @@ fn read_one(
     )
 }
 
-// A reply's number, 0 where the call is done, and what came of it.
-fn show(reply: Reply, bit: u8) {
+// One pass from state 0 back to state 0: all four positions free, margins -1, 1, 1 and 10, extrinsics -5, 3, 0 and 7.
+fn pass_four(
+    marks: &mut [u8],
+    margins: &mut [i32],
+    extrinsics: &mut [i32],
+    work: &mut [i32],
+) -> Reply {
+    let next = turbo::house_next();
+    let words = turbo::house_words();
+    let format = PassFormat {
+        states: 4,
+        outputs: 2,
+        sections: 4,
+        end: End::Zero,
+    };
+    let channel = [4, -1, -2, 2, 1, -5, 3, 6];
+    turbo::lone_decode(
+        format,
+        &next,
+        &words,
+        &channel,
+        &[0; 4],
+        marks,
+        margins,
+        extrinsics,
+        work,
+    )
+}
+
+// A reply's number, 0 where the call is done, and an entry of what came of it.
+fn show(reply: Reply, entry: u8) {
     io::print_decimal(1, refusal::number_of(reply) as u64);
     io::write_all(1, b" ");
-    io::print_decimal(1, bit as u64);
+    io::print_decimal(1, entry as u64);
     io::write_all(1, b"\n");
 }
 
@@ -62,4 +92,7 @@ fn main() {
     let mut bits = [0; 1];
     let reply = read_one(&mut bits, &mut [0; 1], &mut [0; 1], &mut [0; 16]);
     show(reply, bits[0]);
+    let mut marks = [0; 4];
+    let reply = pass_four(&mut marks, &mut [0; 4], &mut [0; 4], &mut [0; 20]);
+    show(reply, marks[3]);
 }
