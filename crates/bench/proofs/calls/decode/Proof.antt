@@ -51,8 +51,8 @@ decode-requires c κs = search needs
 number-of-requires : tie.Need-number-of-requires
 number-of-requires c κs = search needs
 
-cast-t17 : tie.Need-cast-t17
-cast-t17 c = search needs
+cast-t15 : tie.Need-cast-t15
+cast-t15 c = search needs
 
 returns : tie.Need-returns
 returns c = search needs
@@ -76,5 +76,5 @@ decode-spec =
     slice-aggregate-decode-6
     decode-requires
     number-of-requires
-    cast-t17
+    cast-t15
     returns)

@@ -24,8 +24,8 @@ encode-requires c κs = search needs
 number-of-requires : tie.Need-number-of-requires
 number-of-requires c κs = search needs
 
-cast-t20 : tie.Need-cast-t20
-cast-t20 c = search needs
+cast-t18 : tie.Need-cast-t18
+cast-t18 c = search needs
 
 returns : tie.Need-returns
 returns c = search needs
@@ -40,5 +40,5 @@ encode-spec =
     slice-aggregate-encode-3
     encode-requires
     number-of-requires
-    cast-t20
+    cast-t18
     returns)

@@ -42,8 +42,8 @@ decode-requires c κs = search needs
 number-of-requires : tie.Need-number-of-requires
 number-of-requires c κs = search needs
 
-cast-t14 : tie.Need-cast-t14
-cast-t14 c = search needs
+cast-t13 : tie.Need-cast-t13
+cast-t13 c = search needs
 
 place-of-requires : tie.Need-place-of-requires
 place-of-requires c κs = search needs
@@ -67,6 +67,6 @@ pass-spec =
     slice-aggregate-decode-4
     decode-requires
     number-of-requires
-    cast-t14
+    cast-t13
     place-of-requires
     returns)
