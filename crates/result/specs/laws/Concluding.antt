@@ -1,6 +1,6 @@
 -- What concluding leaves: a refusal leaves the lists as they were, and behind the checks of lengths and pattern only 13 can come.
 -- Assumes nothing.
-use mathlib.Core.Path.{_≡_, refl, sym, ap, _∙_}
+use mathlib.Core.Path.{_≡_, sym, ap, _∙_}
 use mathlib.Core.Bool.{true, _&&_}
 use mathlib.Core.List.{List, map}
 use Prim.Native.Nat.{ℕ}
