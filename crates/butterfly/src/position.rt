@@ -14,7 +14,6 @@ ghost use Rattle.trellis.specs.laws.Sizes.{Small};
 ghost use Rattle.metrics.specs.Words.{held};
 ghost use Rattle.siso.specs.laws.Told.{Tellable, IsAt, LeftAt};
 ghost use Rattle.butterfly.specs.laws.Positions.{bestsAt, ToldAt};
-use metrics::half_difference;
 use metrics::is_free;
 use metrics::larger;
 use metrics::mark_of;
@@ -56,11 +55,7 @@ fn margin_less(free: bool, zero: i32, one: i32, part: i32) -> i32
     requires { ⌜ (free ≡ true → (held zero ≡ some zero) × (held one ≡ some one)) ⌝ }
     ensures { λ r. ⌜ r ≡ cond free (halfOf (one -ℤ zero) -ℤ part) (pos 0) ⌝ }
 {
-    if free {
-        half_difference(zero, one) - part
-    } else {
-        0
-    }
+    if free { (one - zero) / 2 - part } else { 0 }
 }
 
 // The position that the best metrics tell. Each list is written once and by no branch, so that the compiler works out several positions at a time.
