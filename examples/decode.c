@@ -87,6 +87,6 @@ int main(void)
     received[5] = 2000;
     received[9] = -2000;
     number = decode(received, &index);
-    printf("two values too loud: refused %u, the first at index %lu, counted from 0\n", (unsigned)number, (unsigned long)index);
+    printf("two values out of range: refused %u, the first at index %lu, counted from 0\n", (unsigned)number, (unsigned long)index);
     return wrong != 0 || number != TURBO_VALUE || index != 5;
 }

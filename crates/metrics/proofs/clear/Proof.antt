@@ -1,4 +1,4 @@
--- `siso::pass::clear` leaves a list of zeros. Invariant: the list is as long as it was, and zeros up to i. Assumes nothing.
+-- `clear` leaves a list of zeros. Invariant: the list is as long as it was, and zeros up to i. Assumes nothing.
 use mathlib.Core.Path.{_≡_, refl, sym, _∙_}
 use mathlib.Core.List.{List}
 use Prim.Native.Nat.{ℕ, _+_, _≤_, _<_, _-_}
