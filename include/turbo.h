@@ -12,8 +12,8 @@
  * `index`, the last argument of both decoders, points to one number and has no length. It is not NULL, is aligned, and overlaps no list.
  * The calls keep nothing and use no static data, so several threads may call at once, each with lists of its own.
  *
- * Stack. Measured on x86-64 in a thread that makes one call, whatever the lists' lengths, in bytes and rounded up: turbo_sheet 149,000,
- * turbo_decode 97,000, turbo_polynomial_pattern 25,000, turbo_encode 18,000, turbo_lone_decode 6,200, the others 6,000; some 4,500 of each
+ * Stack. Measured on x86-64 in a thread that makes one call, whatever the lists' lengths, in bytes and rounded up: turbo_sheet 150,000,
+ * turbo_decode 101,000, turbo_polynomial_pattern 25,000, turbo_encode 18,000, turbo_lone_decode 7,600, the others 6,100; some 4,500 of each
  * are the thread's own. A stack must have room for that; the proofs take it to be large enough.
  *
  * Table. S states (1..16) and n outputs (1..4). The branch of state s and input bit b stands at 2*s + b of `next` (the next state, below S) and
