@@ -1,5 +1,5 @@
 // The best metrics at a position, start by start, and the position that they tell at last.
-ghost use mathlib.Core.Bool.{true, false, cond, _&&_};
+ghost use mathlib.Core.Bool.{true, false, cond};
 ghost use mathlib.Core.List.{List};
 ghost use mathlib.Core.Option.{some};
 ghost use mathlib.Core.Path.{_≡_};
@@ -8,7 +8,6 @@ ghost use lib.IntN.{ℤ, pos, _+ℤ_, _-ℤ_};
 ghost use lib.ListN.{length, getD};
 ghost use Rattle.integers.specs.Integers.{half as halfOf};
 ghost use Rattle.integers.specs.laws.Bounds.{Within};
-ghost use Rattle.lists.specs.Lists.{found};
 ghost use Rattle.trellis.specs.Outcome.{positionOf};
 ghost use Rattle.trellis.specs.laws.Sizes.{Small};
 ghost use Rattle.metrics.specs.Words.{held};

@@ -1,7 +1,7 @@
 // The answer's text, written to a page from its start.
 ghost use mathlib.Core.List.{[], _∷_, _++_};
 ghost use mathlib.Core.Path.{_≡_};
-ghost use Prim.Native.Nat.{_+_, _*_, _≤_, _<_};
+ghost use Prim.Native.Nat.{_+_, _≤_, _<_};
 ghost use lib.ListN.{length, take};
 ghost use Rattle.decoder.specs.Lent.{decodeLentOf};
 ghost use Rattle.refusal.specs.Refusals.{told};

@@ -2,7 +2,7 @@
 -- Assumes nothing.
 use borrow.Author.Needs.{needs}
 use borrow.Author.Tests.{not-false}
-use mathlib.Core.Path.{_≡_, refl, _∙_}
+use mathlib.Core.Path.{refl, _∙_}
 use Rattle.siso.specs.Decode.{Call, Lent}
 use Rattle.siso.specs.Lent.{loneCallOf, loneLentOf}
 use Rattle.siso.specs.laws.Accepted.{Accepted, accepts}

@@ -1,9 +1,9 @@
 -- Values that lean towards bits, each of its bit's sign or 0: they still do when they are handed over, interleaved and deinterleaved. And margins
 -- that tell bits, each of its bit's sign: they are decided as those bits.
 -- Assumes nothing.
-use mathlib.Core.Path.{_≡_, refl, sym, _∙_}
-use mathlib.Core.List.{List, [], _∷_, map}
-use Prim.Native.Nat.{ℕ, zero, suc, _<_}
+use mathlib.Core.Path.{_≡_, sym, _∙_}
+use mathlib.Core.List.{List, map}
+use Prim.Native.Nat.{ℕ, _<_}
 use native.Mathlib.Omega.{arith}
 use lib.IntN.{ℤ, pos}
 use lib.Signed.{_≤ℤ_, _<ℤ_, ≤ℤ-refl}

@@ -2,21 +2,19 @@
 -- Assumes nothing.
 use borrow.Author.Needs.{needs}
 use borrow.Author.Tests.{eqb-true, not-false}
-use mathlib.Core.Path.{_≡_, sym, _∙_}
-use mathlib.Core.Bool.{true, _&&_, false≢true}
+use mathlib.Core.Path.{sym, _∙_}
+use mathlib.Core.Bool.{_&&_, false≢true}
 use mathlib.Core.List.{[], _∷_}
-use Prim.Native.Nat.{_+_, _*_}
-use lib.Dec.{eqb, leb}
-use lib.ListN.{length}
+use lib.Dec.{leb}
 use Rattle.lists.specs.laws.Tests.{and-both}
 use Rattle.refusal.specs.laws.Checks.{then-is-done}
 use Rattle.refusal.specs.laws.InTurn.{Each, each-holds}
 use Rattle.trellis.specs.Table.{tableChecks}
-use Rattle.trellis.specs.Limits.{sectionsFit, channelCheck, aprioriCheck}
+use Rattle.trellis.specs.Limits.{channelCheck, aprioriCheck}
 use Rattle.siso.specs.Decode.{Lent}
-use Rattle.siso.specs.Lent.{valuesOf, passTable, loneCallOf}
+use Rattle.siso.specs.Lent.{loneCallOf}
 use Rattle.siso.specs.laws.Accepted.{Accepted}
-use Rattle.siso.specs.laws.Pass.{Pass, Sized}
+use Rattle.siso.specs.laws.Pass.{Sized}
 use Rattle.butterfly.specs.laws.Tables.{IsButterfly}
 use Rattle.butterfly.proofs.checks.takes.Statement.{statement}
 use Rattle.butterfly.proofs.checks.takes.Tie as tie

@@ -2,7 +2,7 @@
 -- Assumes nothing.
 use borrow.Author.Tests.{not-false}
 use mathlib.Core.Path.{_≡_}
-use mathlib.Core.Bool.{true, false, false≢true}
+use mathlib.Core.Bool.{true, false≢true}
 use Rattle.integers.specs.laws.Linear.{plain}
 use Rattle.butterfly.specs.laws.Metrics.{wings-same}
 use Rattle.butterfly.proofs.Signs.{known-ready, house-ready, gpp-ready}

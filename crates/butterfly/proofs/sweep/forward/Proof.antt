@@ -27,7 +27,7 @@ use Rattle.butterfly.specs.laws.Flights.{Winged, statesOf, Ahead}
 use Rattle.butterfly.specs.laws.Metrics.{Reached}
 use Rattle.butterfly.specs.laws.Tables.{ownAt, otherAt}
 use Rattle.butterfly.proofs.Full.{reached-same, reached-forward}
-use Rattle.butterfly.proofs.Sections.{own-read, other-read, read-small, own-small, other-small, placed, row-place, row-more, next-forward}
+use Rattle.butterfly.proofs.Sections.{own-read, other-read, own-small, other-small, placed, row-place, row-more, next-forward}
 use Rattle.butterfly.proofs.sweep.forward.Statement.{statement}
 use Rattle.butterfly.proofs.sweep.forward.Tie as tie
 

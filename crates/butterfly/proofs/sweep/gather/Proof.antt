@@ -30,7 +30,7 @@ use Rattle.butterfly.specs.laws.Flights.{Winged, statesOf, Behind}
 use Rattle.butterfly.specs.laws.Metrics.{Reached, Backed}
 use Rattle.butterfly.specs.laws.Tables.{ownAt, otherAt}
 use Rattle.butterfly.proofs.Full.{reached-same, reached-backward}
-use Rattle.butterfly.proofs.Sections.{own-read, other-read, read-small, own-small, other-small, placed, row-place, row-of, next-backward, next-meet}
+use Rattle.butterfly.proofs.Sections.{own-read, other-read, own-small, other-small, placed, row-place, row-of, next-backward, next-meet}
 use Rattle.butterfly.proofs.sweep.gather.Statement.{statement}
 use Rattle.butterfly.proofs.sweep.gather.Tie as tie
 

@@ -1,7 +1,6 @@
 -- `checks::iterations_fit` is the definition's test.
 -- Assumes nothing.
 use borrow.Author.Tests.{lt-leb, le-leb}
-use borrow.Author.Needs.{needs}
 use Rattle.frame.proofs.checks.iterations_fit.Statement.{statement}
 use Rattle.frame.proofs.checks.iterations_fit.Tie as tie
 

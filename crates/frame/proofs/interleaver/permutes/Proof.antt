@@ -11,8 +11,6 @@ use borrow.Author.Tests.{le-leb, lt-leb}
 use Rattle.frame.specs.laws.Seen.{Seen, seen-none, seen-more, seen-too-large, seen-twice, seen-all}
 use Rattle.frame.proofs.interleaver.permutes.Statement.{statement}
 use Rattle.frame.proofs.interleaver.permutes.Tie as tie
-use Rattle.frame.proofs.interleaver.permutes.Reads as reads
-use Rattle.frame.proofs.interleaver.permutes.Lts as lts
 
 abbrev Inv-loop : tie.InvT-loop
 Inv-loop pattern seen₀ i₀ seen i = (i ≤ length pattern) × Seen pattern i seen

@@ -4,14 +4,14 @@
 use borrow.Author.Needs.{needs}
 use borrow.Author.Tests.{not-true, not-false}
 use native.Mathlib.Omega.{arith}
-use mathlib.Core.Path.{_≡_, refl, sym, ap, _∙_}
+use mathlib.Core.Path.{_≡_, refl, sym, _∙_}
 use mathlib.Core.Bool.{true, false, cond, _&&_, false≢true}
 use mathlib.Core.Option.{Option, none, some}
 use lib.IntN.{ℤ, pos, _-ℤ_}
 use mir.Syntax.{w32}
 use mir.Val.{SFits}
 use Rattle.integers.specs.laws.Bounds.{Within}
-use Rattle.integers.specs.Integers.{inside, half}
+use Rattle.integers.specs.Integers.{half}
 use Rattle.integers.specs.laws.Laws.{inside-is}
 use Rattle.integers.specs.laws.Linear.{ints, plain}
 use Rattle.lists.specs.Lists.{found}
