@@ -1,5 +1,6 @@
 -- Refusals: the number and the place of each, checks in turn and the first that fails, and what a reply leaves of the lists that were lent
--- (document 01, "Refused frames and calls"; document 02 adds 15, which stands after 2, and 16, which stands after 6).
+-- (document 01, "Refused frames and calls"; document 02 adds 15, which stands after 2, 17 and 18, which stand straight before 6, and 16,
+-- which stands after 6).
 -- Assumes nothing.
 use mathlib.Core.Bool.{Bool, true, false, cond, _||_}
 use mathlib.Core.List.{List, [], _∷_}
@@ -8,7 +9,7 @@ use lib.Dec.{eqb}
 use lib.IntN.{ℤ, pos}
 use lib.ListN.{length, replicate}
 use Rattle.refusal.specs.declared.Refusal.{Refusal}
-use Rattle.refusal.specs.declared.Refusal.the-variants.{Text, Shape, Polynomial, Branch, Length, Lists, Value, ValueInLine, Apriori, Bit, Pattern, Mask, Iterations, Coder, NoPath, ForcedPosition, NoTail}
+use Rattle.refusal.specs.declared.Refusal.the-variants.{Text, Shape, Polynomial, Branch, Length, Lists, Setting, Sample, Value, ValueInLine, Apriori, Bit, Pattern, Mask, Iterations, Coder, NoPath, ForcedPosition, NoTail}
 use Rattle.refusal.specs.declared.Reply.{Reply}
 use Rattle.refusal.specs.declared.Reply.the-variants.{Done, Refused}
 
@@ -28,6 +29,8 @@ told Polynomial = plain 15
 told Branch = plain 3
 told Length = plain 4
 told Lists = plain 5
+told Setting = plain 17
+told Sample = plain 18
 told (Value index) = record { number = 6; place = index }
 told (ValueInLine line) = record { number = 6; place = line }
 told (Apriori index) = record { number = 16; place = index }

@@ -11,6 +11,9 @@ pub enum Refusal {
     Branch,
     Length,
     Lists,
+    // A radio's setting out of range, then a sample that is not finite. Both stand straight before 6.
+    Setting,
+    Sample,
     // A channel value out of range: in a call with the index of the first in its list, and on a sheet with its line.
     Value(usize),
     ValueInLine(usize),
@@ -42,6 +45,8 @@ pub fn number_of_refusal(why: Refusal) -> u32
         Refusal::Branch => 3,
         Refusal::Length => 4,
         Refusal::Lists => 5,
+        Refusal::Setting => 17,
+        Refusal::Sample => 18,
         Refusal::Value(_) => 6,
         Refusal::ValueInLine(_) => 6,
         Refusal::Apriori(_) => 16,

@@ -56,6 +56,12 @@ enum-told-16 c = search needs
 enum-told-17 : tie.Need-enum-told-17
 enum-told-17 c = search needs
 
+enum-told-18 : tie.Need-enum-told-18
+enum-told-18 c = search needs
+
+enum-told-19 : tie.Need-enum-told-19
+enum-told-19 c = search needs
+
 returns : tie.Need-returns
 unfolding told
 returns c = rw (c .enum-told .given .1)
@@ -124,6 +130,14 @@ returns-17 : tie.Need-returns-17
 unfolding told
 returns-17 c = rw (c .enum-told17 .given .1)
 
+returns-18 : tie.Need-returns-18
+unfolding told
+returns-18 c = rw (c .enum-told18 .given .1)
+
+returns-19 : tie.Need-returns-19
+unfolding told
+returns-19 c = rw (c .enum-told19 .given .1)
+
 pub number-of-refusal-spec : {M : Type 1} → statement M
 number-of-refusal-spec =
     tie.close
@@ -145,6 +159,8 @@ number-of-refusal-spec =
     enum-told-15
     enum-told-16
     enum-told-17
+    enum-told-18
+    enum-told-19
     returns
     returns-2
     returns-3
@@ -161,4 +177,6 @@ number-of-refusal-spec =
     returns-14
     returns-15
     returns-16
-    returns-17)
+    returns-17
+    returns-18
+    returns-19)

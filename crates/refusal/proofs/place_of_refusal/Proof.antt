@@ -7,7 +7,7 @@ use denote.Enum.Declared.{tagOf}
 use types.Run.{OneOf, miss}
 use borrow.Author.Needs.{needs}
 use Rattle.refusal.specs.declared.Refusal.{Refusal}
-use Rattle.refusal.specs.declared.Refusal.the-variants.{Text, Shape, Polynomial, Branch, Length, Lists, Value, ValueInLine, Apriori, Bit, Pattern, Mask, Iterations, Coder, NoPath, ForcedPosition, NoTail}
+use Rattle.refusal.specs.declared.Refusal.the-variants.{Text, Shape, Polynomial, Branch, Length, Lists, Setting, Sample, Value, ValueInLine, Apriori, Bit, Pattern, Mask, Iterations, Coder, NoPath, ForcedPosition, NoTail}
 use Rattle.refusal.specs.Refusals.{told}
 use Rattle.refusal.proofs.Refusal.{the-type}
 use Rattle.refusal.proofs.place_of_refusal.Statement.{statement}
@@ -15,7 +15,7 @@ use Rattle.refusal.proofs.place_of_refusal.Tie as tie
 
 -- the refusals that name no place
 abbrev others : List ℕ
-others = 1 ∷ 2 ∷ 3 ∷ 4 ∷ 5 ∷ 9 ∷ 10 ∷ 11 ∷ 12 ∷ 13 ∷ 14 ∷ 15 ∷ 16 ∷ []
+others = 1 ∷ 2 ∷ 3 ∷ 4 ∷ 5 ∷ 6 ∷ 7 ∷ 11 ∷ 12 ∷ 13 ∷ 14 ∷ 15 ∷ 16 ∷ 17 ∷ 18 ∷ []
 
 placeless : (r : Refusal) → OneOf others (tagOf the-type r) → 0 ≡ told r .place
 unfolding told
@@ -25,9 +25,11 @@ placeless Polynomial h = refl
 placeless Branch h = refl
 placeless Length h = refl
 placeless Lists h = refl
-placeless (Value index) h = absurd (miss others 6 tt h)
-placeless (ValueInLine line) h = absurd (miss others 7 tt h)
-placeless (Apriori index) h = absurd (miss others 8 tt h)
+placeless Setting h = refl
+placeless Sample h = refl
+placeless (Value index) h = absurd (miss others 8 tt h)
+placeless (ValueInLine line) h = absurd (miss others 9 tt h)
+placeless (Apriori index) h = absurd (miss others 10 tt h)
 placeless Bit h = refl
 placeless Pattern h = refl
 placeless Mask h = refl

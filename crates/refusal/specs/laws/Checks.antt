@@ -6,7 +6,7 @@ use mathlib.Core.Bool.{Bool, true, false, false≢true}
 use Prim.Native.Nat.{ℕ, _≤_}
 use native.Mathlib.Omega.{arith}
 use Rattle.refusal.specs.declared.Refusal.{Refusal}
-use Rattle.refusal.specs.declared.Refusal.the-variants.{Text, Shape, Polynomial, Branch, Length, Lists, Value, ValueInLine, Apriori, Bit, Pattern, Mask, Iterations, Coder, NoPath, ForcedPosition, NoTail}
+use Rattle.refusal.specs.declared.Refusal.the-variants.{Text, Shape, Polynomial, Branch, Length, Lists, Setting, Sample, Value, ValueInLine, Apriori, Bit, Pattern, Mask, Iterations, Coder, NoPath, ForcedPosition, NoTail}
 use Rattle.refusal.specs.declared.Reply.{Reply}
 use Rattle.refusal.specs.declared.Reply.the-variants.{Done, Refused}
 use Rattle.refusal.specs.Refusals.{told, check, _then_}
@@ -80,6 +80,8 @@ number-small Polynomial = omega arith
 number-small Branch = omega arith
 number-small Length = omega arith
 number-small Lists = omega arith
+number-small Setting = omega arith
+number-small Sample = omega arith
 number-small (Value index) = omega arith
 number-small (ValueInLine line) = omega arith
 number-small (Apriori index) = omega arith
