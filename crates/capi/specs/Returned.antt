@@ -4,6 +4,8 @@
 use mathlib.Core.List.{List, [], _∷_}
 use Prim.Native.Nat.{ℕ, zero, suc}
 use lib.Dec.{eqb}
+use lib.Ieee.{Float}
+use lib.IntN.{ℤ}
 use lib.ListN.{length}
 use Rattle.trellis.specs.declared.End.{End}
 use Rattle.trellis.specs.declared.PassFormat.{PassFormat}
@@ -16,6 +18,9 @@ use Rattle.polynomial.specs.Polynomial.{PatternResult}
 use Rattle.frame.specs.declared.FrameFormat.{FrameFormat}
 use Rattle.coder.specs.Coder.{EncodeResult}
 use Rattle.decoder.specs.Decoder.{DecodeLent, DecodeResult}
+use Rattle.samples.specs.declared.Channel.{Channel}
+use Rattle.samples.specs.declared.Setting.{Setting}
+use Rattle.samples.specs.Samples.{SampleResult}
 use Rattle.capi.specs.declared.ends.Ending.{Ending}
 use Rattle.capi.specs.declared.ends.Ending.the-variants.{Known, Unknown}
 
@@ -35,7 +40,7 @@ pub record Indexed (A : Type 0) : Type 0 where
 abbrev pub indexed : {A : Type 0} → ℕ → ℕ → A → Indexed A
 indexed n i lists = record { number = n; index = i; lists = lists }
 
--- the results of the lone decoder, the coder, the frame decoder and the two builders, each with its reply told as a number
+-- the results of the lone decoder, the coder, the frame decoder, the two builders and the values of samples, each with its reply told as a number
 abbrev pub loneReturned : Result → Indexed Lent
 loneReturned x = indexed (numberOf (x .reply)) (placeOf (x .reply)) (x .lists)
 
@@ -50,6 +55,9 @@ tapsReturned x = returned (numberOf (x .reply)) (x .lists)
 
 abbrev pub patternReturned : PatternResult → Returned (List ℕ)
 patternReturned x = returned (numberOf (x .reply)) (x .pattern)
+
+abbrev pub samplesReturned : SampleResult → Returned (List ℤ)
+samplesReturned x = returned (numberOf (x .reply)) (x .values)
 
 -- the end that a number stands for: 0 zero, 1 open, 2 ring
 unfoldable pub endOf : ℕ → Ending
@@ -79,6 +87,10 @@ passFormatOf states outputs sections end = record { states = states; outputs = o
 abbrev pub formatOf : ℕ → ℕ → End → End → ℕ → ℕ → FrameFormat
 formatOf states outputs first second bits tail =
     record { states = states; outputs = outputs; bits = bits; tail = tail; first = first; second = second }
+
+-- a radio's setting, from a call's scale and its channel
+abbrev pub settingOf : Float → Channel → Setting
+settingOf scale channel = record { scale = scale; channel = channel }
 
 -- entries written to a list: 5 where it is not as long, and then it is as it was
 unfoldable pub writtenChecks : List ℕ → List ℕ → List Check

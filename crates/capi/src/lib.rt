@@ -15,10 +15,12 @@ ghost use Rattle.coder.specs.Coder.{encode as encoded};
 ghost use Rattle.coder.specs.Lent.{encodeCallOf};
 ghost use Rattle.decoder.specs.Decoder.{decode as decoded};
 ghost use Rattle.decoder.specs.Lent.{decodeCallOf, decodeLentOf};
+ghost use Rattle.samples.specs.Samples.{sampleValues};
+ghost use Rattle.samples.specs.declared.Channel.the-variants.{Steady, Fading, Silent};
 ghost use Rattle.sheet.specs.Sheet.{answer as answerTo, FitsPage};
 ghost use Rattle.hints.specs.Hints.{hint, hintOf};
 ghost use Rattle.capi.specs.Returned.{returned, indexed, byEnd, byEnds, passFormatOf, formatOf, loneReturned, encodeReturned, decodeReturned};
-ghost use Rattle.capi.specs.Returned.{tapsReturned, patternReturned, written};
+ghost use Rattle.capi.specs.Returned.{tapsReturned, patternReturned, settingOf, samplesReturned, written};
 
 mod ends;
 
@@ -26,9 +28,11 @@ use ends::Ending;
 use ends::end_of;
 use refusal::Refusal;
 use refusal::Reply;
+use turbo::Channel;
 use turbo::End;
 use turbo::FrameFormat;
 use turbo::PassFormat;
+use turbo::Setting;
 
 // A decoder's reply: its number, and the index beside it, which is always written.
 fn tell(reply: Reply, index: &mut u64) -> u32
@@ -290,4 +294,57 @@ pub extern "C" fn turbo_polynomial_pattern(
         ≡ patternReturned (patternBuilt (patternCallOf bits f1 f2) (now (pattern .entry))) ⌝ }
 {
     refusal::number_of(turbo::polynomial_pattern(bits, f1, f2, pattern))
+}
+
+// The channel values of samples under a setting, with the reply told as a number.
+fn values_of(setting: Setting, samples: &[f32], values: &mut [i16]) -> u32
+    ensures { λ r. ⌜
+        returned r (now (values .exit))
+        ≡ samplesReturned (sampleValues setting (now (samples .entry)) (now (values .entry))) ⌝ }
+{
+    refusal::number_of(turbo::sample_values(setting, samples, values))
+}
+
+// The channel values of samples over a steady channel, to `values`, which stays as it was where the call is refused.
+#[no_mangle]
+pub extern "C" fn turbo_steady_values(
+    ratio: f32,
+    scale: f32,
+    samples: &[f32],
+    values: &mut [i16],
+) -> u32
+    ensures { λ r. ⌜
+        returned r (now (values .exit))
+        ≡ samplesReturned (sampleValues (settingOf scale (Steady ratio)) (now (samples .entry)) (now (values .entry))) ⌝ }
+{
+    let channel = Channel::Steady(ratio);
+    values_of(Setting { scale, channel }, samples, values)
+}
+
+// The same over a fading channel.
+#[no_mangle]
+pub extern "C" fn turbo_fading_values(
+    amplitude: f32,
+    ratio: f32,
+    scale: f32,
+    samples: &[f32],
+    values: &mut [i16],
+) -> u32
+    ensures { λ r. ⌜
+        returned r (now (values .exit))
+        ≡ samplesReturned (sampleValues (settingOf scale (Fading amplitude ratio)) (now (samples .entry)) (now (values .entry))) ⌝ }
+{
+    let channel = Channel::Fading(amplitude, ratio);
+    values_of(Setting { scale, channel }, samples, values)
+}
+
+// The same over a silent channel: every value is 0.
+#[no_mangle]
+pub extern "C" fn turbo_silent_values(scale: f32, samples: &[f32], values: &mut [i16]) -> u32
+    ensures { λ r. ⌜
+        returned r (now (values .exit))
+        ≡ samplesReturned (sampleValues (settingOf scale Silent) (now (samples .entry)) (now (values .entry))) ⌝ }
+{
+    let channel = Channel::Silent;
+    values_of(Setting { scale, channel }, samples, values)
 }
