@@ -5,6 +5,7 @@ use mathlib.Core.Path.{_≡_}
 use mathlib.Core.Logic.{_⊎_}
 use mathlib.Core.List.{List, [], _∷_, map}
 use Prim.Native.Nat.{ℕ}
+use lib.Ieee.{Float}
 use lib.IntN.{ℤ, pos}
 use lib.ListN.{length, replicate}
 use Rattle.refusal.specs.declared.Reply.{Reply}
@@ -16,6 +17,8 @@ use Rattle.polynomial.specs.Polynomial.{PatternCall, patternChecks, patternBuil
 use Rattle.siso.specs.Decode.{Call, Lent, checks, decode as loneDecode}
 use Rattle.coder.specs.Coder.{EncodeCall, encodeChecks, encode}
 use Rattle.decoder.specs.Decoder.{DecodeCall, DecodeLent, decodeChecks, decode}
+use Rattle.samples.specs.declared.Setting.{Setting}
+use Rattle.samples.specs.Samples.{sampleChecks, sampleValues}
 use Rattle.sheet.specs.Sheet.{answer}
 use Rattle.demands.specs.Answered.{sheetRules, IsAnswer}
 
@@ -35,6 +38,9 @@ tapsNumbers = 2 ∷ 15 ∷ []
 
 abbrev pub patternNumbers : List ℕ
 patternNumbers = 15 ∷ 4 ∷ 5 ∷ 8 ∷ []
+
+abbrev pub sampleNumbers : List ℕ
+sampleNumbers = 5 ∷ 17 ∷ 18 ∷ []
 
 -- 1 stands for the sheet's size, with line 0, and then for a line of it
 abbrev pub sheetNumbers : List ℕ
@@ -89,4 +95,7 @@ pub record EveryCall : Type 0 where
   pub pattern : (c : PatternCall) (list : List ℕ) →
       let x = patternBuilt c list in
       IsCall patternNumbers (patternChecks c (length list)) (x .reply) list (x .pattern) [] []
+  pub samples : (s : Setting) (samples : List Float) (values : List ℤ) →
+      let x = sampleValues s samples values in
+      IsCall sampleNumbers (sampleChecks s samples (length values)) (x .reply) values (x .values) [] []
   pub sheet : (bytes : List ℕ) → (numbersOf (sheetRules bytes) ≡ sheetNumbers) × IsAnswer bytes (answer bytes)

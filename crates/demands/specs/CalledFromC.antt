@@ -4,6 +4,7 @@ use mathlib.Core.Path.{_≡_}
 use mathlib.Core.Bool.{true, false}
 use mathlib.Core.List.{List, [], _∷_}
 use Prim.Native.Nat.{ℕ}
+use lib.Ieee.{Float}
 use lib.IntN.{ℤ}
 use lib.ListN.{length}
 use Rattle.refusal.specs.declared.Refusal.the-variants.{Shape}
@@ -16,8 +17,10 @@ use Rattle.polynomial.specs.Polynomial.{PatternCall, patternChecks, patternBuil
 use Rattle.siso.specs.Decode.{Call, Lent, checks, decode as loneDecode}
 use Rattle.coder.specs.Coder.{EncodeCall, encodeChecks, encode}
 use Rattle.decoder.specs.Decoder.{DecodeCall, DecodeLent, decodeChecks, decode}
-use Rattle.capi.specs.Returned.{returned, indexed, byEnd, byEnds, loneReturned, encodeReturned, decodeReturned, tapsReturned, patternReturned, writtenChecks, written}
-use Rattle.demands.specs.Called.{loneNumbers, coderNumbers, decoderNumbers, tapsNumbers, patternNumbers, IsCall, loneLists, frameLists, tableLists}
+use Rattle.samples.specs.declared.Setting.{Setting}
+use Rattle.samples.specs.Samples.{sampleChecks, sampleValues}
+use Rattle.capi.specs.Returned.{returned, indexed, byEnd, byEnds, loneReturned, encodeReturned, decodeReturned, tapsReturned, patternReturned, samplesReturned, writtenChecks, written}
+use Rattle.demands.specs.Called.{loneNumbers, coderNumbers, decoderNumbers, tapsNumbers, patternNumbers, sampleNumbers, IsCall, loneLists, frameLists, tableLists}
 
 -- a number that stands for no end is refused by 2, before all else. (The end that is put in its place is looked at by no check that counts.)
 abbrev pub endCheck : ℕ → Check
@@ -55,6 +58,9 @@ pub record EveryCallFromC : Type 0 where
   pub pattern : (c : PatternCall) (list : List ℕ) →
       let x = patternReturned (patternBuilt c list) in
       IsReturned patternNumbers (patternChecks c (length list)) (x .number) list (x .lists) [] []
+  pub samples : (s : Setting) (samples : List Float) (values : List ℤ) →
+      let x = samplesReturned (sampleValues s samples values) in
+      IsReturned sampleNumbers (sampleChecks s samples (length values)) (x .number) values (x .lists) [] []
   pub house : (entries list : List ℕ) →
       let x = written entries list in
       IsReturned (5 ∷ []) (writtenChecks entries list) (x .number) list (x .lists) [] []

@@ -6,6 +6,7 @@ pub mod Message
 pub mod Answered
 pub mod Codes
 pub mod Placed
+pub mod Sampled
 pub mod Called
 pub mod CalledFromC
 pub mod laws

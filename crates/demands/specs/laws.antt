@@ -25,3 +25,4 @@ pub mod Tailed
 pub mod EveryCode
 pub mod EveryOpen
 pub mod EveryPlace
+pub mod EverySample

@@ -4,6 +4,7 @@ use mathlib.Core.Path.{_≡_, refl}
 use mathlib.Core.Logic.{inl, inr, ⊎-elim}
 use mathlib.Core.List.{List, []}
 use Prim.Native.Nat.{ℕ}
+use lib.Ieee.{Float}
 use lib.IntN.{ℤ, pos}
 use lib.ListN.{length, replicate}
 use borrow.Author.Tests.{ne-eqb}
@@ -19,8 +20,10 @@ use Rattle.polynomial.specs.Polynomial.{PatternCall, sizeChecks, entryChecks, p
 use Rattle.siso.specs.Decode.{Call, Lent, lentChecks, pathChecks, checks, settled, decode as loneDecode}
 use Rattle.coder.specs.Coder.{EncodeCall, encodeLentChecks, encodePathChecks, encodeChecks, encodeSettled, encode}
 use Rattle.decoder.specs.Decoder.{DecodeCall, DecodeLent, decodeLentChecks, decodePathChecks, decodeChecks, decodeSettled, decode}
+use Rattle.samples.specs.declared.Setting.{Setting}
+use Rattle.samples.specs.Samples.{sampleChecks, sampleValues}
 use Rattle.demands.specs.Answered.{sheetRules}
-use Rattle.demands.specs.Called.{loneNumbers, coderNumbers, decoderNumbers, tapsNumbers, patternNumbers, sheetNumbers, numbersOf, Clears, IsCall, EveryCall}
+use Rattle.demands.specs.Called.{loneNumbers, coderNumbers, decoderNumbers, tapsNumbers, patternNumbers, sampleNumbers, sheetNumbers, numbersOf, Clears, IsCall, EveryCall}
 use Rattle.demands.specs.laws.EverySheet.{every-sheet-is-answered}
 
 -- ---- over any list of checks
@@ -72,6 +75,10 @@ pattern-numbered : (c : PatternCall) (long : ℕ) → numbersOf (patternChecks c
 unfolding patternChecks sizeChecks entryChecks told
 pattern-numbered c long = refl
 
+samples-numbered : (s : Setting) (samples : List Float) (long : ℕ) → numbersOf (sampleChecks s samples long) ≡ sampleNumbers
+unfolding sampleChecks told
+samples-numbered s samples long = refl
+
 sheet-numbered : (sheet : List ℕ) → numbersOf (sheetRules sheet) ≡ sheetNumbers
 unfolding sheetRules told
 sheet-numbered sheet = refl
@@ -82,7 +89,7 @@ two : {A B : Type 0} {x x′ : A} {y y′ : B} → x ≡ x′ → y ≡ y′ →
 two e f = λ i. (e i, f i)
 
 pub every-call-is-answered : EveryCall
-unfolding loneDecode settled encode encodeSettled decode decodeSettled tapsBuilt patternBuilt
+unfolding loneDecode settled encode encodeSettled decode decodeSettled tapsBuilt patternBuilt sampleValues
 every-call-is-answered = record {
   lone = λ c l.
       called (checks c l) (lone-numbered c l) (λ h. two (after-refusal h _ _) (two (after-refusal h _ _) (after-refusal h _ _))) (l .work);
@@ -91,5 +98,7 @@ every-call-is-answered = record {
       called (decodeChecks c l) (decoder-numbered c l) (λ h. two (after-refusal h _ _) (two (after-refusal h _ _) (after-refusal h _ _))) (l .work);
   table = λ c l. called-workless (tapsChecks c l) (taps-numbered c l) (λ h. two (after-refusal h _ _) (after-refusal h _ _));
   pattern = λ c list. called-workless (patternChecks c (length list)) (pattern-numbered c (length list)) (λ h. after-refusal h _ _);
+  samples = λ s samples values.
+      called-workless (sampleChecks s samples (length values)) (samples-numbered s samples (length values)) (λ h. after-refusal h _ _);
   sheet = λ sheet. (sheet-numbered sheet, every-sheet-is-answered sheet);
 }

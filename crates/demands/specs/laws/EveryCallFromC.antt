@@ -134,6 +134,7 @@ every-call-from-c-is-answered = record {
   frame = λ end1 end2 c l. frame-by (endOf end1) (endOf end2) c l;
   table = λ c l. record { reply = _; call = every-call-is-answered .table c l; told = refl };
   pattern = λ c list. record { reply = _; call = every-call-is-answered .pattern c list; told = refl };
+  samples = λ s samples values. record { reply = _; call = every-call-is-answered .samples s samples values; told = refl };
   house = λ entries list. record {
     reply = firstOf (writtenChecks entries list);
     call = called-workless (writtenChecks entries list) (written-numbered entries list) (λ h. after-refusal h _ _);
