@@ -23,6 +23,9 @@
  * state back to the same one. A ring's best metric is over all the states that a path may start in.
  *
  * Signs. A value above 0 speaks for bit 1. Channel values are -1023..1023, a-priori values -8191..8191.
+ *
+ * Floats. `float` is the 32-bit format of IEEE 754. The calls for samples multiply in the mode in which a C program starts: rounded to nearest, with
+ * subnormals. A caller that has left it (by fesetround, or by gcc's -ffast-math at the link) restores it for such a call.
  */
 #ifndef TURBO_FRAME_RECEIVER_H
 #define TURBO_FRAME_RECEIVER_H
@@ -35,11 +38,12 @@ extern "C" {
 #endif
 
 /*
- * The number that a call returns; turbo_sheet returns a length instead. Of the numbers that apply, the first in the order 2, 15, 3, 4, 5, 6, 16,
- * 7, .. 14 is returned, which is the order below; each call tests only what it is lent. The numbers that each call
+ * The number that a call returns; turbo_sheet returns a length instead. Of the numbers that apply, the first in the order 2, 15, 3, 4, 5, 17, 18,
+ * 6, 16, 7, .. 14 is returned, which is the order below; each call tests only what it is lent. The numbers that each call
  * returns are told with it, in its order. They, and what a refusal leaves, are proved: EveryCallFromC in crates/demands/specs/CalledFromC.antt.
  *
- * TURBO_VALUE and TURBO_APRIORI say which value: `index` is that of the first one out of range in its list, counted from 0.
+ * TURBO_VALUE and TURBO_APRIORI say which value: `index` is that of the first one out of range in its list, counted from 0. No other number
+ * tells an index.
  *
  * After every refusal the result lists are as they were. The working list is all zeros after TURBO_DONE, TURBO_NO_PATH and
  * TURBO_FORCED_POSITION, and as it was after every other number.
@@ -53,6 +57,8 @@ enum turbo_reply {
     TURBO_BRANCH = 3,           /* a next state not below the number of states, or a word not below 2^outputs */
     TURBO_LENGTH = 4,           /* sections outside 1..4096; bits 0, tail above 4, or bits + tail above 4096; or a polynomial's bits above 4096 */
     TURBO_LISTS = 5,            /* another list without its exact number of entries; the frame's own only where TURBO_MASK does not apply */
+    TURBO_SETTING = 17,         /* stands after 5: amplitude, ratio or scale infinite, not a number, or outside 0..1024; samples only */
+    TURBO_SAMPLE = 18,          /* stands after 17: a sample that is infinite or not a number; samples only */
     TURBO_VALUE = 6,            /* a channel value outside -1023..1023; told with its index, on a sheet with its line */
     TURBO_APRIORI = 16,         /* stands after 6: an a-priori value outside -8191..8191; told with its index; lone decoder only */
     TURBO_BIT = 7,              /* a message bit other than 0 or 1 */
@@ -241,6 +247,34 @@ uint32_t turbo_taps_table(size_t memory, uint32_t feedback, uint32_t parity,
  */
 uint32_t turbo_polynomial_pattern(size_t bits, size_t f1, size_t f2,
                                   uint32_t *pattern, size_t pattern_len);
+
+/*
+ * A radio's samples as channel values: a call for each kind of channel, which is steady, fading or silent.
+ *
+ *   amplitude       0..1024: what was sent arrives times this
+ *   ratio           0..1024: Ec/N0, the energy of a sent bit to the noise; where -1 and 1 are sent and the noise has variance v, it is 1/(2*v)
+ *   scale           0..1024: the value of a sample of 1 where the reliability is 1. The silent channel's is tested too
+ *   samples         any number of them, 0 included, and none infinite or not a number; a sample above 0 speaks for bit 1
+ *   values          as many entries as samples, written: the channel value of each
+ *
+ * Reliability is 4*ratio on the steady channel and (4*amplitude)*ratio on the fading one. The value is (reliability*scale)*sample: each
+ * multiplication, in this order, is rounded once to a float. The product becomes the nearest whole number, halves to even, and is then limited to
+ * -1023..1023; an infinite one is limited by its sign. On the silent channel every value is 0. So the opposite sample gives the opposite value, and
+ * every value is in the range of channel values: a frame received so is never refused by 6.
+ *
+ * -0.0 is within 0..1024. The samples are all tested before a value is written: after a refusal `values` is as it was, however late the bad sample.
+ *
+ * Each returns 0, 5, 17 or 18.
+ */
+uint32_t turbo_steady_values(float ratio, float scale,
+                             const float *samples, size_t samples_len,
+                             int16_t *values, size_t values_len);
+uint32_t turbo_fading_values(float amplitude, float ratio, float scale,
+                             const float *samples, size_t samples_len,
+                             int16_t *values, size_t values_len);
+uint32_t turbo_silent_values(float scale,
+                             const float *samples, size_t samples_len,
+                             int16_t *values, size_t values_len);
 
 #ifdef __cplusplus
 }

@@ -22,7 +22,7 @@ pub type Case = (&'static str, fn() -> Call, &'static str);
 const LARGEST: usize = usize::MAX;
 const HALF: usize = 1 << 63;
 
-fn words<T: ToString>(list: &[T]) -> String {
+pub fn words<T: ToString>(list: &[T]) -> String {
     list.iter().map(T::to_string).collect::<Vec<_>>().join(" ")
 }
 

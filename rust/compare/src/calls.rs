@@ -6,14 +6,17 @@ use plain::{clears_work, coder, frame_decoder, listing, lone, End, Frame, Refuse
 use turbo::raw;
 
 // Numbers are below this; it stands for an answer that is none.
-pub const NUMBERS: u32 = 17;
+pub const NUMBERS: u32 = 19;
 
+#[derive(Default)]
 pub struct Answer {
     pub number: u32,
     // Of a refused sheet; else 0.
     pub line: usize,
     // Of a call that is told ends: their place.
     pub ends: Option<usize>,
+    // The channel values that a call for samples had to write; else 0.
+    pub values: usize,
     pub differences: Vec<String>,
 }
 
@@ -27,6 +30,14 @@ impl Differences {
     pub fn add(&mut self, checked: Result<(), String>) {
         self.0.extend(checked.err());
     }
+}
+
+// The answer to a call without ends, which is told where something differs.
+pub fn answer(number: u32, mut x: Differences, call: impl std::fmt::Debug) -> Answer {
+    if !x.0.is_empty() {
+        x.0.push(format!("{call:?}"));
+    }
+    Answer { number, differences: x.0, ..Answer::default() }
 }
 
 // Half of the calls have no fault, most others one, and some two or three.
@@ -121,7 +132,7 @@ pub fn lone_decoded(d: &mut Draw, call: &lone::Call, lent: lone::Lent) -> Answer
             x.0.push(format!("plain side: {by_recursion:?}, by its listing {by_paths:?}"));
         }
     }
-    Answer { number, line: 0, ends: ends::place(&[call.end]), differences: x.0 }
+    Answer { number, ends: ends::place(&[call.end]), differences: x.0, ..Answer::default() }
 }
 
 fn lone_call(d: &mut Draw, end: End, most: Option<usize>) -> (lone::Call, lone::Lent) {
@@ -287,7 +298,7 @@ pub fn encoded(d: &mut Draw, call: &coder::Call, sent_len: usize) -> Answer {
     x.add(pattern.check(None));
     x.add(masks.check(None));
     x.add(sent.check(asked.as_deref().ok()));
-    Answer { number, line: 0, ends: ends::place(&f.ends), differences: x.0 }
+    Answer { number, ends: ends::place(&f.ends), differences: x.0, ..Answer::default() }
 }
 
 // Received values: any, or those of a coded message with noise, so that iterations have something to find.
@@ -447,7 +458,7 @@ fn decoded_as(d: &mut Draw, call: &frame_decoder::Call, lent: frame_decoder::Len
     x.add(extrinsics.check(results.map(|l| &l.extrinsics[..])));
     x.add(work.check(work_after(asked_number, lent.work).as_deref()));
     x.add(index.check(Some(&[asked_index])));
-    Answer { number, line: 0, ends: ends::place(&f.ends), differences: x.0 }
+    Answer { number, ends: ends::place(&f.ends), differences: x.0, ..Answer::default() }
 }
 
 // Both lists of the house code, at every length up to 20: one of the calls' index.
@@ -462,5 +473,5 @@ pub fn house(d: &mut Draw, length: usize) -> Answer {
     x.0.extend(Differences::new(other, asked).0);
     x.add(next.check((asked == 0).then_some(&table.next[..])));
     x.add(words.check((asked == 0).then_some(&table.words[..])));
-    Answer { number, line: 0, ends: None, differences: x.0 }
+    Answer { number, differences: x.0, ..Answer::default() }
 }

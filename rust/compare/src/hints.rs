@@ -21,7 +21,7 @@ fn compared(d: &mut Draw, text: &[u8]) -> Answer {
     if number != 0 && sheets::outcome(&turbo::sheet(text)).0 != 1 {
         differences.push(format!("hint {number} for a sheet that is not refused by 1"));
     }
-    Answer { number, line: 0, ends: None, differences }
+    Answer { number, differences, ..Answer::default() }
 }
 
 // A text of few kinds of bytes; one in twenty about as long as a sheet may be.

@@ -5,12 +5,27 @@ const BESIDE: usize = 9;
 
 pub trait Entry: Copy + PartialEq + std::fmt::Debug {
     fn drawn(d: &mut Draw) -> Self;
+
+    fn same(self, other: Self) -> bool {
+        self == other
+    }
 }
 
 macro_rules! entry {
     ($($t:ty)*) => { $(impl Entry for $t { fn drawn(d: &mut Draw) -> $t { d.next() as $t } })* };
 }
 entry!(u8 i16 u32 i32 u64);
+
+// By their bits: what is not a number is drawn too, and 0.0 is not -0.0.
+impl Entry for f32 {
+    fn drawn(d: &mut Draw) -> f32 {
+        f32::from_bits(d.next() as u32)
+    }
+
+    fn same(self, other: f32) -> bool {
+        self.to_bits() == other.to_bits()
+    }
+}
 
 pub struct List<T> {
     name: &'static str,
@@ -50,7 +65,7 @@ impl<T: Entry> List<T> {
             }
             whole[BESIDE..BESIDE + entries.len()].copy_from_slice(entries);
         }
-        match (0..whole.len()).find(|&i| whole[i] != self.now[i]) {
+        match (0..whole.len()).find(|&i| !whole[i].same(self.now[i])) {
             None => Ok(()),
             Some(i) => Err(format!("{} at {}: {:?}, asked {:?}", self.name, i as i64 - BESIDE as i64, self.now[i], whole[i])),
         }

@@ -87,5 +87,5 @@ pub fn after_each(d: &mut Draw) -> Answer {
             differences.push(format!("after {iterations} iterations position {k}: bit {}, margin {}, sent {}", bits[k], margins[k], message[k]));
         }
     }
-    Answer { number: first, line: 0, ends: ends::place(&frame.ends), differences }
+    Answer { number: first, ends: ends::place(&frame.ends), differences, ..Answer::default() }
 }

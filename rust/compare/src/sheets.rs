@@ -89,7 +89,7 @@ fn compared(d: &mut Draw, sheet: &[u8], asked: &[u8]) -> Answer {
         differences.push(format!("the sheet \"{}\", the answer \"{}\", asked \"{}\"", shown(sheet), shown(exact.entries()), shown(asked)));
     }
     let (number, line) = outcome(exact.entries());
-    Answer { number, line, ends: None, differences }
+    Answer { number, line, differences, ..Answer::default() }
 }
 
 fn by_plain(d: &mut Draw, sheet: &[u8]) -> Answer {

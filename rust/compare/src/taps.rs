@@ -1,5 +1,5 @@
 // Tables from taps and patterns from polynomials, all the small ones, drawn ones and damaged calls; and frames over such tables.
-use crate::calls::{self, Answer, Differences};
+use crate::calls::{self, answer, Answer, Differences};
 use crate::draw::{self, Draw};
 use crate::lent::List;
 use plain::taps::{self, Code, Polynomial};
@@ -43,13 +43,6 @@ fn polynomial(index: u64) -> Polynomial {
         at -= bits * bits;
     }
     panic!("there is no polynomial {index}")
-}
-
-fn answer(number: u32, mut x: Differences, call: impl std::fmt::Debug) -> Answer {
-    if !x.0.is_empty() {
-        x.0.push(format!("{call:?}"));
-    }
-    Answer { number, line: 0, ends: None, differences: x.0 }
 }
 
 pub fn table(d: &mut Draw, code: Code, lengths: [usize; 2]) -> Answer {

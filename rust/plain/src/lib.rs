@@ -1,4 +1,4 @@
-//! The receiver again, written plainly from document 01 and requests 1, 2, 4 and 7 of document 02, with code and structure of its own: to compare
+//! The receiver again, written plainly from document 01 and requests 1, 2, 4, 5 and 7 of document 02, with code and structure of its own: to compare
 //! with, not to use. Where a sentence about sheets or ends is unclear, it is read as docs/DECISIONS.md says.
 //!
 //! Refusals are rule by rule: every number that applies is gathered, and the lowest is given. Sizes are compared as 128-bit numbers, so no
@@ -11,6 +11,7 @@ pub mod house;
 pub mod listing;
 pub mod lone;
 mod rules;
+pub mod samples;
 pub mod sheet;
 pub mod taps;
 

@@ -1,4 +1,5 @@
 // The conditions of document 01's table and of document 02, one function each. They may be asked in any order and of any call.
+use crate::samples::{Channel, Setting};
 use crate::taps::{Code, Polynomial};
 use crate::{End, Frame, Table};
 
@@ -6,8 +7,8 @@ pub const CHANNEL_LIMIT: i32 = 1023;
 pub const APRIORI_LIMIT: i32 = 8191;
 pub const MOST_SECTIONS: u128 = 4096;
 
-// The numbers from the lowest on: 15 stands straight after 2, and 16 straight after 6.
-const ORDER: [u32; 16] = [1, 2, 15, 3, 4, 5, 6, 16, 7, 8, 9, 10, 11, 12, 13, 14];
+// The numbers from the lowest on: 15 stands straight after 2, 17 and 18 straight before 6, and 16 straight after 6.
+const ORDER: [u32; 18] = [1, 2, 15, 3, 4, 5, 17, 18, 6, 16, 7, 8, 9, 10, 11, 12, 13, 14];
 
 pub fn lowest(applying: &[(u32, bool)]) -> Option<u32> {
     let place = |number: &u32| ORDER.iter().position(|n| n == number).expect("a number of the order");
@@ -80,6 +81,22 @@ pub fn lists(pairs: &[(usize, u128)]) -> bool {
 // 5, for the frame's list: measured only where 9 does not apply. Where 4 applies the length needn't be worked out.
 pub fn frame_list(f: &Frame, length: usize) -> bool {
     !mask(f) && !sizes(f) && length != f.length()
+}
+
+// 17, of the numbers that the setting holds; -0 is not below 0
+pub fn setting(s: &Setting) -> bool {
+    let outside = |x: f32| !x.is_finite() || !(0.0..=1024.0).contains(&x);
+    let of_channel = match s.channel {
+        Channel::Steady { ratio } => outside(ratio),
+        Channel::Fading { amplitude, ratio } => outside(amplitude) || outside(ratio),
+        Channel::Silent => false,
+    };
+    of_channel || outside(s.scale)
+}
+
+// 18
+pub fn samples(samples: &[f32]) -> bool {
+    samples.iter().any(|s| !s.is_finite())
 }
 
 // 6 and 16: the indices of all values that are out of range

@@ -5,10 +5,12 @@
 //!
 //!     speed [ROUNDS [TABLE]]
 //!     speed passes [ROUNDS]
+//!     speed samples [ROUNDS]
 //!
 //! A table is house (the house code), taps8 (3GPP's code, taps 13 and 11), taps16 (taps 19 and 29), drawn8 or drawn16; without one all five. With 0
 //! rounds each decoder only decodes the 8 frames once, for a count of instructions: by_library, by_any_table, by_house_only, by_taps8_only and
-//! by_taps16_only are functions of their own. With `passes` the library alone, lone passes of 1024 sections by end.
+//! by_taps16_only are functions of their own. With `passes` the library alone, lone passes of 1024 sections by end. With `samples` lists of 4096
+//! samples made channel values, by the library and by Rust with the same tests, which rounds by `round_ties_even` or by a sum.
 mod any_table;
 mod code;
 mod decoders;
@@ -17,6 +19,7 @@ mod hard_wired;
 mod house_only;
 mod iterations;
 mod passes;
+mod samples;
 mod stats;
 mod taps16_only;
 mod taps8_only;
@@ -76,20 +79,24 @@ fn measure(table: &Table, rounds: usize) {
 }
 
 fn usage() -> ! {
-    eprintln!("usage: speed [ROUNDS [TABLE]], or speed passes [ROUNDS]; tables: {}", TABLES.map(|t| t.name).join(" "));
+    eprintln!("usage: speed [ROUNDS [TABLE]], speed passes [ROUNDS], or speed samples [ROUNDS]; tables: {}", TABLES.map(|t| t.name).join(" "));
     exit(2)
 }
 
 fn main() {
     let mut words = std::env::args().skip(1).peekable();
-    let by_end = words.next_if_eq("passes").is_some();
+    let other: Option<fn(usize)> = match words.next_if(|word| word == "passes" || word == "samples").as_deref() {
+        Some("passes") => Some(passes::measure_all),
+        Some(_) => Some(samples::measure_all),
+        None => None,
+    };
     let rounds = words.next().map_or(100, |w| w.parse().unwrap_or_else(|_| usage()));
     let only = words.next();
-    if words.next().is_some() || by_end && only.is_some() {
+    if words.next().is_some() || other.is_some() && only.is_some() {
         usage();
     }
-    if by_end {
-        return passes::measure_all(rounds.max(1));
+    if let Some(measure_all) = other {
+        return measure_all(rounds.max(1));
     }
     let wanted = |table: &&Table| only.as_ref().map_or(true, |name| name == table.name);
     if !TABLES.iter().any(|table| wanted(&table)) {

@@ -87,4 +87,18 @@ extern "C" {
     pub fn turbo_taps_table(memory: usize, feedback: u32, parity: u32, next: *mut u8, next_len: usize, words: *mut u8, words_len: usize) -> u32;
 
     pub fn turbo_polynomial_pattern(bits: usize, f1: usize, f2: usize, pattern: *mut u32, pattern_len: usize) -> u32;
+
+    pub fn turbo_steady_values(ratio: f32, scale: f32, samples: *const f32, samples_len: usize, values: *mut i16, values_len: usize) -> u32;
+
+    pub fn turbo_fading_values(
+        amplitude: f32,
+        ratio: f32,
+        scale: f32,
+        samples: *const f32,
+        samples_len: usize,
+        values: *mut i16,
+        values_len: usize,
+    ) -> u32;
+
+    pub fn turbo_silent_values(scale: f32, samples: *const f32, samples_len: usize, values: *mut i16, values_len: usize) -> u32;
 }

@@ -2,19 +2,21 @@
 //!
 //! [`Table`] and [`Frame`] hold what coder and decoder agree on; a table may be built from a code's taps ([`Table::from_taps`]) and a pattern from a
 //! polynomial ([`polynomial_pattern`]), and each coder has an [`End`]. [`encode`], [`decode`] and [`lone_decode`] make every list that the library
-//! writes, of the right length; what is left to refuse is told as a [`Refusal`]. [`sheet()`] answers a sheet's text with text, and [`hint()`] says
-//! what is easy to see of a text that is refused by 1. The library itself makes every check, so none is made twice and in another way here. [`raw`]
-//! has the same calls on the caller's own lists.
+//! writes, of the right length; what is left to refuse is told as a [`Refusal`]. [`sample_values`] makes channel values of a radio's samples under a
+//! [`Setting`]. [`sheet()`] answers a sheet's text with text, and [`hint()`] says what is easy to see of a text that is refused by 1. The library
+//! itself makes every check, so none is made twice and in another way here. [`raw`] has the same calls on the caller's own lists.
 
 mod end;
 mod ffi;
 mod hint;
 pub mod raw;
 mod refusal;
+mod samples;
 
 pub use end::End;
 pub use hint::{hint, Hint};
 pub use refusal::Refusal;
+pub use samples::{sample_values, Channel, Setting};
 
 /// A table: the branch of state s and input bit b stands at 2·s + b of its next states and of its words.
 #[derive(Clone, Debug, PartialEq, Eq)]

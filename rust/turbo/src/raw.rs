@@ -175,3 +175,18 @@ pub fn polynomial_pattern(bits: usize, f1: usize, f2: usize, pattern: &mut [u32]
     // SAFETY: as above.
     unsafe { ffi::turbo_polynomial_pattern(bits, f1, f2, pattern.as_mut_ptr(), pattern.len()) }
 }
+
+pub fn steady_values(ratio: f32, scale: f32, samples: &[f32], values: &mut [i16]) -> u32 {
+    // SAFETY: as above.
+    unsafe { ffi::turbo_steady_values(ratio, scale, samples.as_ptr(), samples.len(), values.as_mut_ptr(), values.len()) }
+}
+
+pub fn fading_values(amplitude: f32, ratio: f32, scale: f32, samples: &[f32], values: &mut [i16]) -> u32 {
+    // SAFETY: as above.
+    unsafe { ffi::turbo_fading_values(amplitude, ratio, scale, samples.as_ptr(), samples.len(), values.as_mut_ptr(), values.len()) }
+}
+
+pub fn silent_values(scale: f32, samples: &[f32], values: &mut [i16]) -> u32 {
+    // SAFETY: as above.
+    unsafe { ffi::turbo_silent_values(scale, samples.as_ptr(), samples.len(), values.as_mut_ptr(), values.len()) }
+}

@@ -1,8 +1,8 @@
 use std::fmt;
 
 /// Why a call was refused, by the numbers of document 01's table and of document 02. Of the refusals that apply a call tells the least: they
-/// stand here in their order, which is that of their numbers but for 15 after 2 and 16 after 6, and of two values the one with the lower index
-/// comes first.
+/// stand here in their order, which is that of their numbers but for 15 after 2, 17 and 18 after 5, and 16 after 6, and of two values the one with
+/// the lower index comes first.
 ///
 /// A later version may know more numbers.
 #[derive(Clone, Copy, Debug, PartialEq, Eq, Hash, PartialOrd, Ord)]
@@ -14,6 +14,10 @@ pub enum Refusal {
     Branch,
     Length,
     Lists,
+    /// A number of a receiver's setting is out of range.
+    Setting,
+    /// A sample is infinite or not a number.
+    Sample,
     /// A channel value is out of range: the first such one stands at this index of its list, counted from 0.
     Value { index: usize },
     /// The same of an a-priori value.
@@ -37,6 +41,8 @@ impl Refusal {
             Refusal::Branch => 3,
             Refusal::Length => 4,
             Refusal::Lists => 5,
+            Refusal::Setting => 17,
+            Refusal::Sample => 18,
             Refusal::Value { .. } => 6,
             Refusal::Apriori { .. } => 16,
             Refusal::Bit => 7,
@@ -51,7 +57,7 @@ impl Refusal {
     }
 
     /// The refusal that a call of [`raw`](crate::raw) tells by its number and the index beside it; for a call without an index any will do, since
-    /// it counts with 6 and 16 alone. There is none for 0, which is no refusal, and above 16.
+    /// it counts with 6 and 16 alone. There is none for 0, which is no refusal, and above 18.
     pub fn from_reply(number: u32, index: u64) -> Option<Refusal> {
         // An index of a list that was lent is a `usize`.
         let index = index as usize;
@@ -62,6 +68,8 @@ impl Refusal {
             3 => Refusal::Branch,
             4 => Refusal::Length,
             5 => Refusal::Lists,
+            17 => Refusal::Setting,
+            18 => Refusal::Sample,
             6 => Refusal::Value { index },
             16 => Refusal::Apriori { index },
             7 => Refusal::Bit,
@@ -85,6 +93,8 @@ impl Refusal {
             Refusal::Branch => "a next state is not below the number of states, or a word not below 2^outputs",
             Refusal::Length => "sections must be 1 to 4096; message bits at least 1, tail sections 0 to 4, and both together at most 4096",
             Refusal::Lists => "a list is not of its exact length",
+            Refusal::Setting => "amplitude, ratio and scale must each be a number within 0..1024",
+            Refusal::Sample => "a sample is infinite or not a number",
             Refusal::Value { index } => return format!("the channel value at index {index}, counted from 0, is outside -1023..1023"),
             Refusal::Apriori { index } => return format!("the a-priori value at index {index}, counted from 0, is outside -8191..8191"),
             Refusal::Bit => "a message bit is neither 0 nor 1",

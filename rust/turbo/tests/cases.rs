@@ -99,9 +99,9 @@ fn sizes_out_of_limits_are_refused_and_not_made() {
 
 #[test]
 fn refusals_have_the_numbers_of_the_table() {
-    for number in 1..=16 {
+    for number in 1..=18 {
         assert_eq!(Refusal::from_reply(number, 0).map(Refusal::number), Some(number));
     }
     assert_eq!(Refusal::from_reply(0, 0), None);
-    assert_eq!(Refusal::from_reply(17, 0), None);
+    assert_eq!(Refusal::from_reply(19, 0), None);
 }
