@@ -104,12 +104,18 @@ fn reliability(channel: Channel) -> f32
 }
 
 // The products are formed in the paper's order: in another they may round otherwise.
+fn last_product(factor: f32, scale: f32, sample: f32) -> f32
+    ensures { λ r. ⌜ r ≡ (factor *ᶠ scale) *ᶠ sample ⌝ }
+{
+    (factor * scale) * sample
+}
+
 fn value_of(factor: f32, scale: f32, sample: f32) -> i16
     requires { ⌜ finite (factor *ᶠ scale) ≡ true ⌝ }
     requires { ⌜ finite sample ≡ true ⌝ }
     ensures { λ r. ⌜ r ≡ nearestValue ((factor *ᶠ scale) *ᶠ sample) ⌝ }
 {
-    whole::nearest((factor * scale) * sample)
+    whole::nearest(last_product(factor, scale, sample))
 }
 
 // The value of every sample.

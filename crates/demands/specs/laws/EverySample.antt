@@ -5,7 +5,7 @@ use mathlib.Core.Logic.{_≢_}
 use mathlib.Core.Bool.{Bool, true, false, false≢true}
 use mathlib.Core.List.{List, map}
 use mathlib.Core.Option.{Option, none, some, Option·elim}
-use Prim.Native.Nat.{ℕ, _*_, _%_, _≤_, _<_}
+use Prim.Native.Nat.{ℕ, _*_, _%_, _<_}
 use native.Mathlib.Nat.{le-antisymm}
 use native.Mathlib.Omega.{arith}
 use lib.Ieee.{Float, nan, inf, fin, up, down, neg, isNan}
@@ -46,18 +46,15 @@ abbrev fraction : ℤ → ℕ → Fraction
 fraction o b = record { over = o; under = b }
 
 nearest-opposite : (o : ℤ) (b : ℕ) (w : ℤ) → IsNearest (fraction o b) w → IsNearest (fraction (negℤ o) b) (negℤ w)
-nearest-opposite o b w h = record { nearest = nearer; even = evenly }
+nearest-opposite o b w h = record {
+  nearest = λ k. rw (distance-opposite o b w, turned k) (h .nearest (negℤ k));
+  even = λ k other e.
+      let apart : negℤ k ≢ w = λ z. other (sym (opposite-twice k) ∙ ap negℤ z) in
+      ap (λ (n : ℕ). n % 2) (size-opposite w) ∙ h .even (negℤ k) apart (sym (turned k) ∙ e ∙ distance-opposite o b w);
+}
   where
     turned : (k : ℤ) → distance (fraction (negℤ o) b) k ≡ distance (fraction o b) (negℤ k)
     turned k = ap (λ (z : ℤ). distance (fraction (negℤ o) b) z) (sym (opposite-twice k)) ∙ distance-opposite o b (negℤ k)
-
-    nearer : (k : ℤ) → distance (fraction (negℤ o) b) (negℤ w) ≤ distance (fraction (negℤ o) b) k
-    nearer k = rw (distance-opposite o b w, turned k) (h .nearest (negℤ k))
-
-    evenly : (k : ℤ) → k ≢ negℤ w → distance (fraction (negℤ o) b) k ≡ distance (fraction (negℤ o) b) (negℤ w) → natAbs (negℤ w) % 2 ≡ 0
-    evenly k other e =
-        let apart : negℤ k ≢ w = λ z. other (sym (opposite-twice k) ∙ ap negℤ z) in
-        ap (λ (n : ℕ). n % 2) (size-opposite w) ∙ h .even (negℤ k) apart (sym (turned k) ∙ e ∙ distance-opposite o b w)
 
 module _ (a b : ℕ) (some-under : 0 < b) where
   natural : IsNearest (fraction (pos a) b) (pos (closest a b))
