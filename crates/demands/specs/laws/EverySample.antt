@@ -28,7 +28,7 @@ use Rattle.samples.specs.laws.Calls.{accepted}
 use Rattle.samples.specs.laws.Nearest.{distance as distanceOf, closest-nearest, closest-tie}
 use Rattle.samples.specs.laws.Settings.{IsNumber, product-is-number}
 use Rattle.samples.specs.laws.Values.{values-opposite, reply-opposite, values-fit}
-use Rattle.demands.specs.Sampled.{Fraction, distance, IsNearest, IsNearestLimited, IsRounded, IsValue, AreValues, EverySampleCall}
+use Rattle.demands.specs.Sampled.{Fraction, distance, IsNearest, IsRounded, IsValue, AreValues, EverySampleCall}
 
 -- ---- the nearest whole number
 

@@ -1,6 +1,5 @@
 -- `in_range` is the test of a number of the setting.
 -- Assumes nothing.
-use borrow.Author.Needs.{needs}
 use Rattle.samples.specs.laws.Settings.{zero-is, most-is, range-from-zero, range-below-zero}
 use Rattle.samples.proofs.in_range.Statement.{statement}
 use Rattle.samples.proofs.in_range.Tie as tie

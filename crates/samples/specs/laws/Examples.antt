@@ -38,6 +38,14 @@ the-order-of-products :
 unfolding sampleValue product reliability nearestValue Option·elim limited maxℤ minℤ mul ofBits
 the-order-of-products = (refl, refl)
 
+-- each channel: ratio 1/4 and scale 1 leave a sample of 3 as it is; amplitude 1/2, ratio 3 and scale 8 make 48 of 1; and silent gives 0
+each-channel :
+    (sampleValue (setting one (Steady (fin false 1 (negsuc 1)))) (fin false 3 (pos 0)) ≡ pos 3)
+    × (sampleValue (setting (fin false 1 (pos 3)) (Fading (fin false 1 (negsuc 0)) (fin false 3 (pos 0)))) one ≡ pos 48)
+    × (sampleValue (setting one Silent) one ≡ pos 0)
+unfolding sampleValue product reliability nearestValue Option·elim limited maxℤ minℤ mul
+each-channel = (refl, refl, refl)
+
 -- 0.5, 1.5, 2.5 and -1.5, with reliability·scale of 1; an infinity of either sign, and 1,023.5
 halves-to-even :
     (nearestValue (fin false 1 (negsuc 0)) ≡ pos 0)

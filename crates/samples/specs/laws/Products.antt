@@ -4,16 +4,15 @@
 use mathlib.Core.Path.{_≡_, refl, sym, ap, _∙_}
 use mathlib.Core.Bool.{Bool, true, false, not, cond, _&&_, _||_, false≢true}
 use Prim.Native.Nat.{ℕ, zero, suc, _+_, _*_, _^_, _≤_, _<_}
-use native.Mathlib.Nat.{le-trans, le-of-eq, lt-of-lt-of-le, mul-assoc, mul-one, mul-pos, mul-right-comm, mul-mul-mul-comm, mul-le-mul, mul-le-mul-right, le-of-mul-le-mul-right}
+use native.Mathlib.Nat.{le-trans, le-of-eq, lt-of-lt-of-le, mul-assoc, mul-one, mul-pos, mul-right-comm, mul-mul-mul-comm, mul-le-mul, le-of-mul-le-mul-right}
 use native.Mathlib.Omega.{arith}
 use lib.Dec.{T, eqb, ltb, eqb→eq, ltb→lt, lit<}
-use lib.Ieee.{Float, nan, inf, fin, Format, binary32, prec, emax, low, unlike, up, down, odd, units, round, neg, mul, lt, eq, le, isNan}
+use lib.Ieee.{Float, nan, inf, fin, Format, binary32, prec, emax, low, unlike, up, down, odd, units, round, neg, mul, le, isNan}
 use lib.Ieee.Exact.{HasValue, round-exact}
 use lib.Ieee.Fits.{down-pos}
 use lib.Ieee.Order.{round-mono}
 use lib.Ieee.Positive.{num, den, den-pos}
 use lib.Ieee.Scale.{finite}
-use lib.IntN.{ℤ, pos}
 use lib.Pow.{pow-add, pow-mono, shl-lt}
 use Rattle.samples.specs.Samples.{_*ᶠ_}
 
@@ -158,13 +157,19 @@ at-most-below (fin false m e) (fin false n d) b s v h = record {
 
 -- a fraction of at most b, rounded, is at most b, where b is a number that f32 holds
 module _ (a c b q j : ℕ) (some : 0 < c) (least : a ≤ b * c) (held : b ≡ q * 2 ^ j) (digits : q < 2 ^ 24) (low-enough : j ≤ 100) where
+  -- b in units of the smallest float
+  in-units : b * 2 ^ 149 ≡ q * 2 ^ (j + 149) * 1
+  in-units =
+      ap (λ (z : ℕ). z * 2 ^ 149) held
+      ∙ mul-assoc q (2 ^ j) (2 ^ 149)
+      ∙ ap (λ (z : ℕ). q * z) (sym (pow-add 2 j 149))
+      ∙ sym (mul-one (q * 2 ^ (j + 149)))
+
   held-exactly : HasValue (round binary32 false b 1) false b 1
   held-exactly =
       let room : 24 + (j + 149) ≤ 277 = omega arith in
       let fine : q * 2 ^ (j + 149) < 2 ^ 277 = lt-of-lt-of-le (shl-lt 24 (j + 149) digits) (pow-mono room) in
-      let units-of : b * 2 ^ 149 ≡ q * 2 ^ (j + 149) * 1 =
-      ap (λ (z : ℕ). z * 2 ^ 149) held ∙ mul-assoc q (2 ^ j) (2 ^ 149) ∙ ap (λ (z : ℕ). q * z) (sym (pow-add 2 j 149)) ∙ sym (mul-one _) in
-      round-exact binary32 false b 1 q (j + 149) (lit< tt) digits fine units-of
+      round-exact binary32 false b 1 q (j + 149) (lit< tt) digits fine in-units
 
   pub upright-at-most : AtMost b (round binary32 false a c)
   upright-at-most =

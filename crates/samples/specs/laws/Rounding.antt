@@ -5,7 +5,7 @@ use mathlib.Core.Bool.{Bool, true, false, not, cond, false≢true}
 use Prim.Native.Nat.{ℕ, zero, suc, _+_, _-_, _*_, _/_, _%_, _^_, _≤_, _<_, min, compare, Ordering, Ordering·lt, Ordering·eq, Ordering·gt}
 use native.Mathlib.Decide.{decLt}
 use native.Mathlib.Nat.{mod-eq-of-lt, div-eq-of-lt, mul-assoc, mul-le-mul-right, mul-le-mul-left, le-div-iff-mul-le, one-mul, mul-one, lt-of-le-of-lt, lt-of-lt-of-le, le-trans, pow-suc}
-use native.Mathlib.Numerals.{add-one, sub-one}
+use native.Mathlib.Numerals.{add-one}
 use native.Mathlib.Omega.{arith}
 use borrow.Author.Tests.{lt-ltb, le-ltb}
 use lib.Dec.{T, isLe, isEq, leb, eqb, ltb, leb→le, nleb→lt, eqb→eq, eqb-refl, lit<, lit≤}
@@ -13,8 +13,7 @@ use lib.Ieee.{Float, nan, inf, fin, binary32, up, down, nearest, odd, neg, ofFie
 use lib.Ieee.Exact.{HasValue, odd-sign}
 use lib.Ieee.Fits.{down-pos}
 use lib.Ieee.Nearest.{closest, closest-same, nearest-ge}
-use lib.Ieee.Positive.{num, den}
-use lib.IntN.{ℤ, pos, negsuc, negℤ}
+use lib.IntN.{pos, negℤ}
 use lib.Pow.{pow-pos, pow-mono, pow-add, shl-lt, shl-exact}
 use Rattle.integers.specs.Integers.{limited}
 use Rattle.integers.specs.laws.Linear.{ints}
@@ -157,20 +156,22 @@ module _ (x t : ℕ) where
       let n : units-of / 2 ^ 149 ≤ closest units-of (2 ^ 149) = nearest-ge (units-of / 2 ^ 149) (compare (units-of % 2 ^ 149 * 2) (2 ^ 149)) in
       cut (closest units-of (2 ^ 149)) (le-trans d n)
 
-  normal-between : 126 ≤ suc x → suc x ≤ 136 → closest units-of (2 ^ 149) ≡ closest (8388608 + t) (2 ^ (150 - suc x))
-  normal-between p q =
+  -- with the powers of two in both divided out
+  reduced : suc x ≤ 136 → units-of * 2 ^ (150 - suc x) ≡ (8388608 + t) * 2 ^ 149
+  reduced q =
       let k : x + (150 - suc x) ≡ 149 = omega arith in
       let s : 2 ^ x * 2 ^ (150 - suc x) ≡ 2 ^ 149 = sym (pow-add 2 x (150 - suc x)) ∙ ap (λ (k : ℕ). 2 ^ k) k in
-      let g : units-of * 2 ^ (150 - suc x) ≡ (8388608 + t) * 2 ^ 149 =
-      mul-assoc (8388608 + t) (2 ^ x) (2 ^ (150 - suc x)) ∙ ap (λ (k : ℕ). (8388608 + t) * k) s in
-      closest-same units-of (2 ^ 149) (8388608 + t) (2 ^ (150 - suc x)) (lit< tt) (pow-pos (150 - suc x)) g
+      mul-assoc (8388608 + t) (2 ^ x) (2 ^ (150 - suc x)) ∙ ap (λ (k : ℕ). (8388608 + t) * k) s
+
+  normal-between : suc x ≤ 136 → closest units-of (2 ^ 149) ≡ closest (8388608 + t) (2 ^ (150 - suc x))
+  normal-between q = closest-same units-of (2 ^ 149) (8388608 + t) (2 ^ (150 - suc x)) (lit< tt) (pow-pos (150 - suc x)) (reduced q)
 
   normal-size : t < 8388608 → min 1023 (closest units-of (2 ^ 149)) ≡ sizeAt (suc x) t
   normal-size h = elim (decLt (suc x) 126) [
     | yes low ↦ ap (min 1023) (normal-low h low) ∙ sym (size-low t low)
     | no not-low ↦ elim (decLt 136 (suc x)) [
       | yes high ↦ normal-high high ∙ sym (size-high t high)
-      | no not-high ↦ ap (min 1023) (normal-between (omega arith) (omega arith)) ∙ sym (size-between t (omega arith) (omega arith))
+      | no not-high ↦ ap (min 1023) (normal-between (omega arith)) ∙ sym (size-between t (omega arith) (omega arith))
     ]
   ]
 

@@ -1,7 +1,6 @@
 -- `whole::nearest` is the channel value of a float, by what its bits say.
 -- Assumes nothing.
 use mathlib.Core.Path.{sym, ap, _∙_}
-use native.Mathlib.Omega.{arith}
 use lib.Dec.{T, leb}
 use lib.Ieee.{binary32, fits, toBits}
 use lib.Ieee.Bits.{ofBits-toBits, is-false}
