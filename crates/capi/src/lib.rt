@@ -305,7 +305,7 @@ fn values_of(setting: Setting, samples: &[f32], values: &mut [i16]) -> u32
     refusal::number_of(turbo::sample_values(setting, samples, values))
 }
 
-// The channel values of samples over a steady channel, to `values`, which stays as it was where the call is refused.
+// The channel values of samples over a channel that is steady. The list for them stays as it was where the call is refused.
 #[no_mangle]
 pub extern "C" fn turbo_steady_values(
     ratio: f32,

@@ -2,7 +2,7 @@
 use crate::heard::heard;
 use crate::hint::hint;
 use crate::sheet::{Answer, Sheet};
-use crate::sound::{Loudness, SoundFrames};
+use crate::sound::{Level, SoundFrames};
 use std::sync::Arc;
 
 /// A refused sheet.
@@ -31,9 +31,9 @@ impl Frame {
             Answer::Refused { number, line } => Err(Refused { number, line, hint: hint(number, text) }),
             Answer::Decoded { bits, margins, extrinsics } => {
                 let sheet = Sheet::of_decoded(text);
-                let loudness = Loudness::of(&sheet);
-                let sound = sound_frames.margins(&sheet, loudness);
-                let heard = heard(&sheet, &bits, loudness);
+                let level = Level::of(&sheet);
+                let sound = sound_frames.margins(&sheet, level);
+                let heard = heard(&sheet, &bits, level);
                 Ok(Frame { pattern: sheet.pattern, bits, margins, extrinsics, sound, heard })
             }
         }

@@ -3,7 +3,7 @@ use crate::sheet::Sheet;
 use turbo::{encode, End, Frame, Table};
 
 /// The size of a value sent through a sound feeder, without noise.
-pub const LOUD: i64 = 80;
+pub const SENT_LEVEL: i64 = 80;
 const LARGEST: i64 = 1023;
 // The noise is a sum of 12 whole numbers from -500 to 500: its deviation is sqrt(4·500·501), 1001 to the nearest.
 const TERMS: usize = 12;
@@ -80,7 +80,7 @@ impl Shaft {
 
     // A bit as it is received: one rounding, a half upwards.
     fn received(&mut self, bit: u8, gain: i64) -> i16 {
-        let sent = if bit == 1 { LOUD } else { -LOUD };
+        let sent = if bit == 1 { SENT_LEVEL } else { -SENT_LEVEL };
         let hundredfold = sent * gain * DEVIATION + 100 * self.draw.noise() * self.model.noise;
         let unit = 100 * DEVIATION;
         let value = (2 * hundredfold + unit).div_euclid(2 * unit);

@@ -3,17 +3,17 @@ use crate::sheet::{Answer, Sheet};
 use std::collections::HashMap;
 use std::sync::{Arc, Mutex};
 
-/// How loud a sheet is: the sum of the sizes of all values that were sent, the tails' too, and their number.
+/// The level of a sheet, the mean size of its values: the sum of the sizes of all values that were sent, the tails' too, and their number.
 #[derive(Clone, Copy, Debug, PartialEq, Eq)]
-pub struct Loudness {
+pub struct Level {
     pub total: i64,
     pub count: i64,
 }
 
-impl Loudness {
-    pub fn of(sheet: &Sheet) -> Loudness {
+impl Level {
+    pub fn of(sheet: &Sheet) -> Level {
         // The tails are always sent, so the count is at least 8.
-        sheet.sent().fold(Loudness { total: 0, count: 0 }, |l, v| Loudness { total: l.total + i64::from(v).abs(), count: l.count + 1 })
+        sheet.sent().fold(Level { total: 0, count: 0 }, |l, v| Level { total: l.total + i64::from(v).abs(), count: l.count + 1 })
     }
 
     /// The mean size to the nearest whole number, a half upwards, and at least 1: the size of every value of the sound frame.
@@ -52,8 +52,8 @@ pub struct SoundFrames(Mutex<HashMap<Key, Arc<[i32]>>>);
 
 impl SoundFrames {
     /// By position, the size of the margin of the sheet's sound frame.
-    pub fn margins(&self, like: &Sheet, loudness: Loudness) -> Arc<[i32]> {
-        let size = loudness.rounded();
+    pub fn margins(&self, like: &Sheet, level: Level) -> Arc<[i32]> {
+        let size = level.rounded();
         let key = Key::new(like, size);
         if let Some(known) = self.0.lock().expect("no thread has failed").get(&key) {
             return known.clone();

@@ -6,7 +6,7 @@ use shaft::frame::Frame;
 use shaft::model::{Draw, Model, Shaft};
 use shaft::report::{self, Outcome};
 use shaft::sheet::{Answer, Sheet};
-use shaft::sound::{self, Loudness, SoundFrames};
+use shaft::sound::{self, Level, SoundFrames};
 use shaft::sources;
 use std::collections::HashMap;
 
@@ -141,7 +141,7 @@ fn the_sound_margin_does_not_depend_on_the_message() {
             let (message, sheet) = shaft.receive();
             let Answer::Decoded { margins, .. } = Answer::to(sheet.text().as_bytes()) else { panic!("refused") };
             let sizes: Vec<i32> = margins.iter().map(|m| m.abs()).collect();
-            assert_eq!(sizes[..], *sound_frames.margins(&sheet, Loudness::of(&sheet)));
+            assert_eq!(sizes[..], *sound_frames.margins(&sheet, Level::of(&sheet)));
             for at in (0..bits).filter(|&at| margins[at] != 0) {
                 assert_eq!(margins[at] > 0, message[at] == 1);
             }
@@ -155,18 +155,18 @@ fn sound_frames_differ_by_pattern_masks_and_size() {
         |to: [u32; 2], row: [Option<i16>; 3], size: i16| Sheet { pattern: to.to_vec(), rows: vec![[Some(size); 3], row], tails: [[size; 4]; 2] };
     let kept = SoundFrames::default();
     let full = sheet([0, 1], [Some(20); 3], 20);
-    let first = kept.margins(&full, Loudness::of(&full));
+    let first = kept.margins(&full, Level::of(&full));
     for other in [sheet([1, 0], [Some(20); 3], 20), sheet([0, 1], [Some(20), None, None], 20), sheet([0, 1], [Some(30); 3], 30)] {
-        let loudness = Loudness::of(&other);
-        let fresh = SoundFrames::default().margins(&other, loudness);
-        assert_eq!(kept.margins(&other, loudness), fresh);
+        let level = Level::of(&other);
+        let fresh = SoundFrames::default().margins(&other, level);
+        assert_eq!(kept.margins(&other, level), fresh);
         assert_ne!(fresh, first);
     }
 }
 
 #[test]
-fn loudness_is_rounded_and_at_least_one() {
-    let rounded = |total, count| Loudness { total, count }.rounded();
+fn the_level_is_rounded_and_at_least_one() {
+    let rounded = |total, count| Level { total, count }.rounded();
     assert_eq!([rounded(0, 11), rounded(5, 10), rounded(14, 10), rounded(15, 10), rounded(1023 * 11, 11)], [1, 1, 1, 2, 1023]);
 }
 
