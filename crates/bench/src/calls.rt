@@ -4,7 +4,7 @@ use frame::FrameFormat;
 use trellis::PassFormat;
 
 // What a lone pass leaves: the number of its reply and the index with it, and the result lists.
-#[derive(Drop)]
+#[derive(Clone, Copy)]
 pub struct Passed {
     pub number: usize,
     pub place: usize,
@@ -41,7 +41,7 @@ pub fn pass(f: PassFormat, next: &[u8], words: &[u8], channel: &[i16], apriori: 
 }
 
 // The number of the coder's reply and the frame.
-#[derive(Drop)]
+#[derive(Clone, Copy)]
 pub struct Sent {
     pub number: usize,
     pub sent: [u8; 32],
@@ -67,7 +67,7 @@ pub fn encode(f: FrameFormat, message: &[u8], pattern: &[u32], masks: &[u8], len
 }
 
 // What the frame decoder leaves: the number of its reply, bits and margins.
-#[derive(Drop)]
+#[derive(Clone, Copy)]
 pub struct Decoded {
     pub number: usize,
     pub bits: [u8; 16],
@@ -109,7 +109,7 @@ pub fn decode(
 }
 
 // The number of the reply, next states and words.
-#[derive(Drop)]
+#[derive(Clone, Copy)]
 pub struct Table {
     pub number: usize,
     pub next: [u8; 32],
@@ -130,7 +130,7 @@ pub fn taps(memory: usize, feedback: u32, parity: u32, len: usize) -> Table {
 }
 
 // The number of the reply and the entries of a pattern.
-#[derive(Drop)]
+#[derive(Clone, Copy)]
 pub struct Entries {
     pub number: usize,
     pub list: [u32; 40],

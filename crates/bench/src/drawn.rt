@@ -13,7 +13,7 @@ const FORCED: usize = 2;
 
 const WRONG: usize = 3;
 
-#[derive(Drop)]
+#[derive(Clone, Copy)]
 struct Tally {
     counts: [usize; 4],
 }

@@ -4,7 +4,7 @@ use crate::numbers;
 use trellis::{End, PassFormat};
 
 // A table's lists and the values of a pass, with room for 16 states, and for 4 outputs in 12 sections.
-#[derive(Drop)]
+#[derive(Clone, Copy)]
 pub struct Lists {
     pub next: [u8; 48],
     pub words: [u8; 48],
@@ -13,14 +13,14 @@ pub struct Lists {
 }
 
 // A walk so far: the state, and the metric.
-#[derive(Drop)]
+#[derive(Clone, Copy)]
 struct Walk {
     state: usize,
     metric: i32,
 }
 
 // The best metrics of each position k, with bit b there, at 2·k + b; of `has`, 0 stands for none.
-#[derive(Drop)]
+#[derive(Clone, Copy)]
 pub struct Best {
     pub metric: [i32; 32],
     pub has: [u8; 32],

@@ -1,5 +1,7 @@
 // The lone decoder, faster: a pass over a table that is a butterfly goes by wings of two states. Every other call, a refused one too, is siso's. What is
 // answered is the same.
+#![tactic(auto)]
+
 ghost use Rattle.std.specs.Prelude.{◌≡◌};
 ghost use Rattle.siso.specs.Decode.{decode as decoded};
 ghost use Rattle.siso.specs.Lent.{lone_call_of, lone_lent_of, lone_result_of};

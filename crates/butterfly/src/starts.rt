@@ -64,7 +64,7 @@ fn late(early: usize, sections: usize) -> usize
 }
 
 // What the sweep forwards gives: the metrics after the last section, and whether every state is reached from the first plain section on.
-#[derive(Drop)]
+#[derive(Clone, Copy)]
 pub struct Front {
     pub metrics: [i32; 16],
     pub full: bool,

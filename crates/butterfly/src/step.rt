@@ -13,7 +13,7 @@ ghost use Rattle.butterfly.specs.laws.Metrics.{IsSign, is_minus, gain_of, gain_a
 use metrics::{NOTHING, larger};
 
 // Which steps are for a table: how many wings it has, and whether it has the house code's signs or those of 3GPP's code.
-#[derive(Drop)]
+#[derive(Clone, Copy)]
 pub struct Kind {
     pub half: usize,
     pub house: bool,
@@ -174,7 +174,7 @@ pub fn forwards(
 }
 
 // What a step back gives: the metrics before a section, and the best metrics with bit 0 and with bit 1 in it.
-#[derive(Drop)]
+#[derive(Clone, Copy)]
 pub struct Back {
     pub metrics: [i32; 16],
     pub zero: i32,

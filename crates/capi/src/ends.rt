@@ -5,7 +5,7 @@ ghost use Rattle.capi.specs.Returned.{end_of};
 use trellis::End;
 
 // What a number stands for.
-#[derive(Drop)]
+#[derive(Clone, Copy)]
 pub enum Ending {
     Known(End),
     Unknown,

@@ -1,5 +1,7 @@
 // The receiver for programs in other languages: a list is a pointer and a length, an end a number, the reply is its number, and the decoders write the
 // index that 6 and 16 carry. A number that stands for no end is refused by 2, whatever else is lent. include/turbo.h declares these.
+#![tactic(auto)]
+
 ghost use Rattle.std.specs.Prelude.{cond, ◌++◌, ◌≡◌, leb, length, drop};
 ghost use Rattle.refusal.specs.Refusals.{number_of, place_of};
 ghost use Rattle.house.specs.House.{house};

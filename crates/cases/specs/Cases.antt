@@ -1,7 +1,7 @@
 -- The bench cases of document 01 that are marked P, in one list, each with its answer; and the answer that the definitions give.
 -- Assumes nothing.
 use mathlib.Core.List.{List, [], ◌∷◌, get_last_d}
-use Rattle.std.proofs.Math.Option.{Option, some, Option·elim, bind, or_else}
+use Rattle.std.proofs.Math.Option.{Option, some, Option-elim, bind, or_else}
 use Rattle.std.specs.Prelude.{ℕ, ℤ, pos, negsuc, length, replicate}
 use Rattle.std.specs.Int.Count.{ones}
 use Rattle.lists.specs.Lists as ByIndex
@@ -46,7 +46,7 @@ pub data Case : Type 0 where
 -- the same case with the definitions' answer
 unfoldable pub computed : Case → Case
 unfolding
-    bind Option·elim or_else get_last_d ones
+    bind Option-elim or_else get_last_d ones
     ByIndex.listed ByIndex.joined ByIndex.keep ByIndex.every ByIndex.any ByIndex.first_failing ByIndex.count ByIndex.is_empty ByIndex.found ByIndex.upto
     Integers.max_ℤ Integers.min_ℤ Integers.inside Integers.limited Integers.half
     Refusals.told Refusals.number_of Refusals.check Refusals.◌then◌ Refusals.first_of Refusals.after Refusals.cleared
@@ -70,7 +70,7 @@ computed (sheet s a) = sheet s (Sheet.answer s)
 computed (interleaved p xs ys) = interleaved p xs (Interleaver.interleave 0 p xs)
 computed (coder_path f m p ps) =
     let path = Coder.coded_path f.table f.first f.tail m in
-    coder_path f m path (Option·elim path [] (λ q. ByIndex.listed (Coder.parity_at f.table q) (length q.bits)))
+    coder_path f m path (Option-elim path [] (λ q. ByIndex.listed (Coder.parity_at f.table q) (length q.bits)))
 computed (coded c l r) = coded c l (Coder.encode c l)
 computed (decoded c l r) = decoded c l (Decoder.decode c l)
 computed (frame_size f n) = frame_size f (Frame.frame_length f)

@@ -1,4 +1,6 @@
 // The coder: the two coders' sections with their tails, punctured to a frame.
+#![tactic(auto)]
+
 ghost use Rattle.std.specs.Prelude.{◌≡◌};
 ghost use Rattle.coder.specs.Coder.{encode as encoded};
 ghost use Rattle.coder.specs.Lent.{encode_call_of, encode_result_of};

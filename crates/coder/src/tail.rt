@@ -5,7 +5,7 @@ ghost use Rattle.coder.specs.laws.Sections.{prefixed, Short};
 ghost use Rattle.coder.specs.laws.Tails.{IsTail};
 
 // The inputs of a tail as one number: input i is its bit i.
-#[derive(Drop)]
+#[derive(Clone, Copy)]
 pub enum Tail {
     Nothing,
     Inputs(u8),

@@ -2,7 +2,7 @@
 -- Every outcome is said over the paths of the pass's own end; no recursion over states and no listing of paths is named here.
 -- Assumes nothing.
 use Rattle.std.specs.Prelude.{◌≡◌, ◌↔◌, ◌⊎◌, List, ℕ, suc, ◌-◌, ◌≤◌, ◌<◌, ℤ, pos, length, get_or, replicate}
-use Rattle.std.proofs.Math.Option.{Option, some, Option·elim}
+use Rattle.std.proofs.Math.Option.{Option, some, Option-elim}
 use Rattle.refusal.specs.declared.Refusal.TheVariants.{NoPath, ForcedPosition}
 use Rattle.refusal.specs.declared.Reply.TheVariants.{Done, Refused}
 use Rattle.trellis.specs.declared.End.{End}
@@ -25,11 +25,11 @@ pub record Pass : Type 0 where
 
 -- the margin at position k; 0 where it is forced or there is no path
 unfoldable pub margin_at : Pass → ℕ → ℤ
-margin_at p k = Option·elim (p.said k) (pos 0) margin
+margin_at p k = Option-elim (p.said k) (pos 0) margin
 
 -- the extrinsic at position k: the margin without its intrinsic part; 0 where it is forced or there is no path
 unfoldable pub extrinsic_at : Table → Pass → ℕ → ℤ
-extrinsic_at t p k = Option·elim (p.said k) (pos 0) (extrinsic (intrinsic t p.values k))
+extrinsic_at t p k = Option-elim (p.said k) (pos 0) (extrinsic (intrinsic t p.values k))
 
 -- a pass by its coder's end that reads these channel values: an a-priori value a section, 0 at tail positions, and the outcome at each position,
 -- tail positions included, is what the paths say

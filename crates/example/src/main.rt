@@ -1,4 +1,6 @@
 // Codes the message 1, decodes a frame of one message bit, and makes one pass over four sections, each with the house code.
+#![tactic(auto)]
+
 use refusal::Reply;
 use turbo::{End, FrameFormat, PassFormat};
 

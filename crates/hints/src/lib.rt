@@ -1,4 +1,6 @@
 // What is easy to see of a sheet's text, for the words beside a refusal by 1. It decides nothing: `sheet::answer` does.
+#![tactic(auto)]
+
 ghost use Rattle.std.specs.Prelude.{cond, ◌&&◌, ◌≡◌, ◌+◌, ◌<◌, ◌≤◌, eqb, length, get_or};
 ghost use Rattle.hints.specs.Hints.{line_of, starts_with, is_wide, space_at, last_line, line_hint, hint_of};
 
@@ -24,7 +26,7 @@ pub const NO_LINE_FEED: u32 = 8;
 pub const TOO_LONG: u32 = 9;
 
 // What is seen, and in which line, the header being 1; 0 where it is in no line.
-#[derive(Drop)]
+#[derive(Clone, Copy)]
 pub struct Hint {
     pub kind: u32,
     pub line: usize,

@@ -1,9 +1,11 @@
 // The house code: its eight branches as two constant arrays, and the table's two lists.
+#![tactic(auto)]
+
 ghost use Rattle.std.specs.Prelude.{◌≡◌, ◌<◌};
 ghost use Rattle.house.specs.House.{house_parity, house_next, house};
 
 // The parity for input x in state s, and the state after it.
-#[derive(Drop)]
+#[derive(Clone, Copy)]
 struct Branch {
     parity: u8,
     next: u8,

@@ -1,5 +1,7 @@
 // Metrics of states as words, and what both lone decoders do with them: the larger of two, where paths begin and end, what two best metrics tell of a
 // position, and the working list cleared. Each function takes every call.
+#![tactic(auto)]
+
 ghost use Rattle.std.specs.Prelude.{◌≡◌, pos, length, replicate};
 
 mod position;

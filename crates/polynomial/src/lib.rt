@@ -1,4 +1,6 @@
 // Patterns given by a polynomial: entry i is (f1·i + f2·i²) mod K.
+#![tactic(auto)]
+
 ghost use Rattle.std.specs.Prelude.{◌≡◌, ◌<◌, length};
 ghost use Rattle.refusal.specs.Refusals.{first_of};
 ghost use Rattle.frame.specs.Interleaver.{permutes};

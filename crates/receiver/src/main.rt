@@ -2,6 +2,8 @@
 //
 // A read or a write that fails is told on standard error, and there is no answer, or no whole one. Once the whole answer is out, a refusal is explained on
 // standard error; and a caller that gives the argument `3` is told on descriptor 3 how it ended, by one byte: `0` for a result, `1` for a refusal.
+#![tactic(auto)]
+
 ghost use Rattle.std.specs.Prelude.{◌≡◌, ◌≤◌, length};
 
 mod explain;

@@ -1,8 +1,10 @@
 // Every refusal, the reply of an entry, and checks in turn. The number and the place of each refusal are definitions of specs/.
+#![tactic(auto)]
+
 ghost use Rattle.std.specs.Prelude.{◌≡◌};
 ghost use Rattle.refusal.specs.Refusals.{told, number_of, place_of, check as check_of, ◌then◌};
 
-#[derive(Drop)]
+#[derive(Clone, Copy)]
 pub enum Refusal {
     // The sheet's text, with the faulty line, or 0.
     Text(usize),
@@ -30,7 +32,7 @@ pub enum Refusal {
     NoTail,
 }
 
-#[derive(Drop)]
+#[derive(Clone, Copy)]
 pub enum Reply {
     Done,
     Refused(Refusal),

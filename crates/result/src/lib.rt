@@ -1,4 +1,6 @@
 // The result lists of a decoding, in message order, from what its last passes say. It takes every call.
+#![tactic(auto)]
+
 ghost use Rattle.std.specs.Prelude.{◌&&◌, map, ◌≡◌, eqb, pos, length};
 ghost use Rattle.frame.specs.Interleaver.{deinterleave};
 ghost use Rattle.frame.specs.laws.Interleaving.{Permutes};

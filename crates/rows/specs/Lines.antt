@@ -2,7 +2,7 @@
 -- Assumes nothing.
 use Rattle.std.specs.Prelude.{Bool, cond, not, ◌&&◌, ℕ, zero, suc, ◌+◌, ◌-◌, leb, ltb, length}
 use mathlib.Core.List.{List, [], ◌∷◌, drop_last, get_last_d}
-use Rattle.std.proofs.Math.Option.{Option, none, some, Option·elim, or_else}
+use Rattle.std.proofs.Math.Option.{Option, none, some, Option-elim, or_else}
 use Rattle.lists.specs.Lists.{is_empty, found}
 use Rattle.text.specs.Text.{bytes, line_feed, cut, same}
 use Rattle.refusal.specs.declared.Refusal.TheVariants.{Text}
@@ -45,7 +45,7 @@ first_fault sheet =
 
 -- the same, the header being 1; 0 where there is none
 unfoldable pub fault_line : List ℕ → ℕ
-fault_line sheet = Option·elim (first_fault sheet) 0 suc
+fault_line sheet = Option-elim (first_fault sheet) 0 suc
 
 -- a sheet has at most 16,384 bytes and 3..514 rows
 unfoldable pub size_fits : List ℕ → Bool

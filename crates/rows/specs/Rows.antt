@@ -1,7 +1,7 @@
 -- The rows of a sheet (document 01, "Sheet"): what a message row and a tail row hold, and which text is one.
 -- Assumes nothing.
 use Rattle.std.specs.Prelude.{Bool, false, cond, ◌&&◌, List, [], ℕ, eqb, ℤ, length, get_or}
-use Rattle.std.proofs.Math.Option.{Option, none, some, map, Option·elim, bind}
+use Rattle.std.proofs.Math.Option.{Option, none, some, map, Option-elim, bind}
 use Rattle.text.specs.Text.{bytes, space, cut, same}
 use Rattle.text.specs.Decimal.{natural, integer}
 
@@ -35,7 +35,7 @@ value_or_unsent field = cond (dash field) (some none) (map (λ z. some z) (integ
 
 -- there are six fields, and the first is the row's number
 unfoldable pub starts : ℕ → List ℕ → Bool
-starts k line = eqb (length (cut space line)) 6 && Option·elim (natural (field_at line 0)) false (λ n. eqb n k)
+starts k line = eqb (length (cut space line)) 6 && Option-elim (natural (field_at line 0)) false (λ n. eqb n k)
 
 -- ---- rows
 

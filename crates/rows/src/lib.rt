@@ -1,4 +1,6 @@
 // The text of a sheet: its lines and rows, and its faults. Every function takes any text.
+#![tactic(auto)]
+
 mod faults;
 mod fields;
 mod lines;
@@ -7,7 +9,7 @@ pub use faults::{message_bits, text_reply};
 pub use fields::{message_row, tail_in};
 
 // A message row as it is received, or zeros where the text is none.
-#[derive(Drop)]
+#[derive(Clone, Copy)]
 pub struct Message {
     pub fits: bool,
     pub to: u32,
@@ -17,7 +19,7 @@ pub struct Message {
 }
 
 // A tail row, or zeros where the text is none.
-#[derive(Drop)]
+#[derive(Clone, Copy)]
 pub struct Tail {
     pub fits: bool,
     pub sys: i32,

@@ -2,14 +2,14 @@
 ghost use Rattle.rows.specs.laws.Pieces.{Counted, IsPiece};
 
 // How many pieces a text has, and where the last begins.
-#[derive(Drop)]
+#[derive(Clone, Copy)]
 pub struct Cut {
     pub count: usize,
     pub last: usize,
 }
 
 // Where a piece begins and ends.
-#[derive(Drop)]
+#[derive(Clone, Copy)]
 pub struct Span {
     pub from: usize,
     pub to: usize,

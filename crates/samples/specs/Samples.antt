@@ -2,7 +2,7 @@
 -- whole number, and the whole result of a call.
 -- Assumes nothing.
 use Rattle.std.specs.Prelude.{Bool, true, false, ◌&&◌, List, [], ◌∷◌, map, ℕ, ◌*◌, eqb, Float, ℤ, pos, neg_ℤ, length}
-use Rattle.std.proofs.Math.Option.{Option, none, some, Option·elim}
+use Rattle.std.proofs.Math.Option.{Option, none, some, Option-elim}
 use Rattle.std.specs.Float.{nan, inf, fin, binary32}
 use Rattle.std.specs.Float.Ieee.{up, down, mul, le}
 use Rattle.std.specs.Float.Ieee.Nearest.{closest}
@@ -38,7 +38,7 @@ reliability Silent = none
 
 -- the last product: (reliability·scale)·sample
 unfoldable pub product : Setting → Float → Option Float
-product s x = Option·elim (reliability s.channel) none (λ r. some ((r *ᶠ s.scale) *ᶠ x))
+product s x = Option-elim (reliability s.channel) none (λ r. some ((r *ᶠ s.scale) *ᶠ x))
 
 -- a whole number by its sign, true for minus, and its size
 abbrev pub with_sign : Bool → ℕ → ℤ
@@ -54,7 +54,7 @@ nearest_value (fin s m e) = limited channel_limit (with_sign s (closest (m * up 
 
 -- the value of a sample: silent gives 0
 unfoldable pub sample_value : Setting → Float → ℤ
-sample_value s x = Option·elim (product s x) (pos 0) nearest_value
+sample_value s x = Option-elim (product s x) (pos 0) nearest_value
 
 -- ---- a call
 

@@ -1,4 +1,6 @@
 // Channel values from the samples of a radio: (reliability·scale)·sample in f32, each product rounded once, then the nearest whole number, limited.
+#![tactic(auto)]
+
 ghost use Rattle.std.specs.Prelude.{true, ◌&&◌, map, ◌≡◌};
 ghost use Rattle.std.specs.Float.Ieee.Scale.{finite};
 ghost use Rattle.lists.specs.Lists.{every};
@@ -13,7 +15,7 @@ mod whole;
 use refusal::{Refusal, Reply};
 
 // How the radio's channel is: steady with a ratio, fading with an amplitude and a ratio, or silent.
-#[derive(Drop)]
+#[derive(Clone, Copy)]
 pub enum Channel {
     Steady(f32),
     Fading(f32, f32),
@@ -21,7 +23,7 @@ pub enum Channel {
 }
 
 // A receiver's setting: one scale beside the channel's numbers.
-#[derive(Drop)]
+#[derive(Clone, Copy)]
 pub struct Setting {
     pub scale: f32,
     pub channel: Channel,

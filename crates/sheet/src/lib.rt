@@ -1,4 +1,6 @@
 // The sheet: the text of a frame in, the text of the answer out. Both are definitions of specs/.
+#![tactic(auto)]
+
 ghost use Rattle.std.specs.Prelude.{cond, ◌++◌, ◌≡◌, leb, length, drop};
 ghost use Rattle.sheet.specs.Sheet.{answer as answer_to, FitsPage};
 ghost use Rattle.sheet.specs.laws.Printing.{Wrote};

@@ -1,4 +1,6 @@
 // The lone decoder: one pass over a table and an end that its caller gives.
+#![tactic(auto)]
+
 ghost use Rattle.std.specs.Prelude.{◌≡◌};
 ghost use Rattle.siso.specs.Decode.{decode as decoded};
 ghost use Rattle.siso.specs.Lent.{lone_call_of, lone_lent_of, lone_result_of};

@@ -175,7 +175,7 @@ pub fn forwards(
 }
 
 // What a step back gives: the metrics before a section, and the best metrics with bit 0 and with bit 1 in it.
-#[derive(Drop)]
+#[derive(Clone, Copy)]
 pub struct Back {
     pub metrics: [i32; 16],
     pub zero: i32,

@@ -1,4 +1,6 @@
 // What a pass's numbers become: an extrinsic the other pass's a-priori value, a margin a bit. Each takes every number.
+#![tactic(auto)]
+
 ghost use Rattle.std.specs.Prelude.{◌≡◌};
 ghost use Rattle.soft.specs.Soft.{hand_over, decided as decided_of};
 

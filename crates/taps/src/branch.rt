@@ -4,7 +4,7 @@ ghost use Rattle.taps.specs.Taps.{odd_under, next_entry, word_entry};
 ghost use Rattle.taps.specs.laws.Filling.{FewStates, BuiltBy};
 
 // The state after a branch, and its word.
-#[derive(Drop)]
+#[derive(Clone, Copy)]
 struct Branch {
     next: u8,
     word: u8,

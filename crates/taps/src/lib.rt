@@ -1,4 +1,6 @@
 // Codes named by their taps: the table of memory m, from its feedback and parity numbers, built into two lists.
+#![tactic(auto)]
+
 ghost use Rattle.std.specs.Prelude.{◌≡◌};
 ghost use Rattle.taps.specs.Build.{taps_built, taps_call_of, taps_lent_of, taps_result_of};
 

@@ -1,5 +1,7 @@
 // The turbo code under one name: the coder, the frame decoder, the lone decoder, the house table, tables and patterns by their polynomials, and channel values
 // from a radio's samples.
+#![tactic(auto)]
+
 pub use butterfly::decode as lone_decode;
 pub use coder::encode;
 pub use decoder::decode;

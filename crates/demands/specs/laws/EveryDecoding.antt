@@ -3,7 +3,7 @@
 use Rattle.std.specs.Prelude.{◌≡◌, refl, false, List, ◌++◌, map, ℤ, negsuc}
 use Rattle.std.proofs.Math.Path.{ap}
 use Rattle.std.proofs.Common.{◌∙◌, inr, length-append, get_or-append-add}
-use Rattle.std.proofs.Math.Option.{some, Option·elim}
+use Rattle.std.proofs.Math.Option.{some, Option-elim}
 use Prim.Native.Nat.{ℕ, zero, suc, ◌+◌, ◌-◌, ◌≤◌, ◌<◌}
 use native.Mathlib.Omega.{arith}
 use Rattle.std.proofs.Math.IntN.{pos}
@@ -49,7 +49,7 @@ module _ (f : Frame) (end : End) (channel a : List ℤ) where
 
   -- a position that isn't forced, where there is a path, is free
   pass_free_at : (k : ℕ) → forced f.table end (sections_of f end) k ≡ false → (pass_over f end channel a).said k ≡ some (Free (margin_at (pass_over f end channel a) k))
-  unfolding margin_at pass_over Option·elim margin
+  unfolding margin_at pass_over Option-elim margin
   pass_free_at k e = let (m, is_free) = (outcome_is_free f.table end (sections_of f end) k (pass_over f end channel a).values).1 e in rw is_free
 
   module _ (long : length a ≡ f.bits) where

@@ -4,7 +4,7 @@ use Rattle.std.specs.Prelude.{◌≡◌, ◌≢◌, Bool, true, false, List, map
 use Rattle.std.proofs.Math.Path.{refl}
 use Rattle.std.proofs.Common.{sym, ap, ◌∙◌, arith, ext_get_or}
 use Rattle.std.proofs.lemmas.Bool.{false≢true}
-use Rattle.std.proofs.Math.Option.{Option, none, some, Option·elim}
+use Rattle.std.proofs.Math.Option.{Option, none, some, Option-elim}
 use Rattle.std.proofs.Math.Nat.{le_antisymm}
 use Rattle.std.specs.Float.{nan, inf, fin}
 use Rattle.std.specs.Float.Ieee.{up, down, neg, is_nan}
@@ -100,17 +100,17 @@ module _ (s : Setting) (x : Float) where
   unfolding sample_value
   value_is h f = go (product s x) (product_is_number s x h f)
     where
-      go : (p : Option Float) → IsNumber p → IsValue p (Option·elim p (pos 0) nearest_value)
-      go none n = unfold IsValue Option·elim in refl
-      go (some p) n = unfold IsValue Option·elim in rounded p (unfold IsNumber in n)
+      go : (p : Option Float) → IsNumber p → IsValue p (Option-elim p (pos 0) nearest_value)
+      go none n = unfold IsValue Option-elim in refl
+      go (some p) n = unfold IsValue Option-elim in rounded p (unfold IsNumber in n)
 
   only_value : (v : ℤ) → IsValue (product s x) v → v ≡ sample_value s x
   unfolding sample_value
   only_value v h = go (product s x) h
     where
-      go : (p : Option Float) → IsValue p v → v ≡ Option·elim p (pos 0) nearest_value
-      go none n = unfold IsValue Option·elim in n
-      go (some p) n = unfold IsValue Option·elim in only_rounded p v n
+      go : (p : Option Float) → IsValue p v → v ≡ Option-elim p (pos 0) nearest_value
+      go none n = unfold IsValue Option-elim in n
+      go (some p) n = unfold IsValue Option-elim in only_rounded p v n
 
 -- ---- every call
 

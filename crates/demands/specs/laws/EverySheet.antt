@@ -6,7 +6,7 @@ use Rattle.std.proofs.Common.{◌∙◌, arith}
 use Rattle.std.proofs.Math.Logic.{inl, inr, ⊎_elim}
 use Rattle.std.proofs.Math.Bool.{true, false, not}
 use Rattle.std.proofs.lemmas.Bool.{false≢true, not-false}
-use Rattle.std.proofs.Math.Option.{Option, none, some, Option·elim}
+use Rattle.std.proofs.Math.Option.{Option, none, some, Option-elim}
 use Rattle.lists.specs.Lists.{first_failing, found}
 use Rattle.lists.specs.laws.Listed.{listed_length}
 use Rattle.refusal.specs.declared.Refusal.{Refusal}
@@ -108,10 +108,10 @@ module _ (sheet : List ℕ) where
 
   -- where a line is faulty
   told_line : not (found (first_fault sheet)) ≡ false → IsFaultyLine sheet (fault_line sheet)
-  unfolding fault_line found Option·elim
+  unfolding fault_line found Option-elim
   told_line e = go (first_fault sheet) refl (not-false _ e)
     where
-      go : (f : Option ℕ) → first_fault sheet ≡ f → found f ≡ true → IsFaultyLine sheet (Option·elim f 0 suc)
+      go : (f : Option ℕ) → first_fault sheet ≡ f → found f ≡ true → IsFaultyLine sheet (Option-elim f 0 suc)
       go none is h = absurd (false≢true h)
       go (some i) is h = faulty_line sheet i is
 

@@ -7,7 +7,7 @@
 use Rattle.std.specs.Prelude.{◌≡◌, ◌↔◌, true, false, ℕ, ◌+◌, ◌-◌, ◌%◌, ◌^◌, ◌≤◌, ◌<◌, ℤ, pos, negsuc, neg_ℤ, ◌+ℤ◌, ◌*ℤ◌, nat_abs, ◌≤ℤ◌, ◌<ℤ◌}
 use Rattle.std.proofs.Math.Path.{refl}
 use Rattle.std.proofs.Common.{sym, ap, ◌∙◌, to_z-of_z}
-use Rattle.std.proofs.Math.Logic.{Iff·rfl}
+use Rattle.std.proofs.Math.Logic.Iff
 use native.Mathlib.Omega.{arith}
 use Rattle.std.proofs.Math.IntN.{sub_ℕ}
 use Rattle.std.specs.Int.Signed.{mag, lt_z, le_z, quot_z}
@@ -55,15 +55,15 @@ odd z = parity z
 module _ (a b : ℤ) where
   pub le_mark : (a ≤ℤ b) ↔ Le (mark a) (mark b)
   unfolding mark Le
-  le_mark = Iff·rfl
+  le_mark = Iff.rfl
 
   pub lt_mark : (a <ℤ b) ↔ Lt (mark a) (mark b)
   unfolding mark Lt
-  lt_mark = Iff·rfl
+  lt_mark = Iff.rfl
 
   pub eq_mark : (a ≡ b) ↔ Eq (mark a) (mark b)
   unfolding mark Eq
-  eq_mark = Iff·rfl
+  eq_mark = Iff.rfl
 
   pub lt_true : (lt_z a b ≡ true) ↔ Lt (mark a) (mark b)
   unfolding mark Lt
@@ -112,7 +112,7 @@ module _ (a : ℤ) where
 
   pub fits_mark : (w : Width) → SFits w a ↔ Fits w (mark a)
   unfolding mark Fits
-  fits_mark w = Iff·rfl
+  fits_mark w = Iff.rfl
 
   -- a leaf
   pub leaf : mark a ≡ diff (above a) (below a)
@@ -122,7 +122,7 @@ module _ (a : ℤ) where
 module _ (k : ℕ) (a : ℤ) where
   pub in_mark : Within k a ↔ In k (mark a)
   unfolding mark In
-  in_mark = Iff·rfl
+  in_mark = Iff.rfl
 
   pub inside_true : (inside k a ≡ true) ↔ In k (mark a)
   unfolding mark In

@@ -4,13 +4,13 @@ use Rattle.refusal.specs.Refusals.{check}
 use Rattle.refusal.proofs.check.Statement.{statement}
 use Rattle.refusal.proofs.check.Tie as tie
 
+returns-then-passes : tie.Need-returns-then-passes
+unfolding check
+returns-then-passes c = rw c.if-passes.true
+
 returns : tie.Need-returns
 unfolding check
-returns c = rw c.if1.true
+returns c = rw c.if-passes.false
 
-returns-2 : tie.Need-returns-2
-unfolding check
-returns-2 c = rw c.if1.false
-
-pub check-spec : {M : Type 1} → statement M
-check-spec = tie.close (tie.spec returns returns-2)
+pub check_spec : {M : Type 1} → statement M
+check_spec = tie.close (tie.spec returns-then-passes returns)

@@ -5,19 +5,19 @@ use Rattle.refusal.specs.Refusals.{◌then◌}
 use Rattle.refusal.proofs.first_of.Statement.{statement}
 use Rattle.refusal.proofs.first_of.Tie as tie
 
-enum_told : tie.Need-enum-told
-enum_told c = search rules
+enum_told-1 : tie.Need-enum_told-1
+enum_told-1 c = search rules
 
-enum-told-2 : tie.Need-enum-told-2
-enum-told-2 c = search rules
+enum_told-in-Refused : tie.Need-enum_told-in-Refused
+enum_told-in-Refused c = search rules
 
-returns : tie.Need-returns
+returns-in-Done : tie.Need-returns-in-Done
 unfolding ◌then◌
-returns c = rw c.enum_told.given.1
+returns-in-Done c = rw c.in-Done.is
 
-returns-2 : tie.Need-returns-2
+returns-in-Refused : tie.Need-returns-in-Refused
 unfolding ◌then◌
-returns-2 c = rw c.enum-told2.given.1
+returns-in-Refused c = rw c.in-Refused.is
 
-pub first-of-spec : {M : Type 1} → statement M
-first-of-spec = tie.close (tie.spec enum_told enum-told-2 returns returns-2)
+pub first_of_spec : {M : Type 1} → statement M
+first_of_spec = tie.close (tie.spec enum_told-1 enum_told-in-Refused returns-in-Done returns-in-Refused)

@@ -5,22 +5,22 @@ use Rattle.refusal.specs.Refusals.{number_of}
 use Rattle.refusal.proofs.number_of.Statement.{statement}
 use Rattle.refusal.proofs.number_of.Tie as tie
 
-enum_told : tie.Need-enum-told
-enum_told c = search rules
+enum_told-1 : tie.Need-enum_told-1
+enum_told-1 c = search rules
 
-enum-known-reply : tie.Need-enum-known-reply
-enum-known-reply c = search rules
+enum_known-reply : tie.Need-enum_known-reply
+enum_known-reply c = search rules
 
-number-of-refusal-requires : tie.Need-number-of-refusal-requires
-number-of-refusal-requires c κs = search rules
+number_of_refusal-requires : tie.Need-number_of_refusal-requires
+number_of_refusal-requires c κs = search rules
 
-returns : tie.Need-returns
+returns-in-Done : tie.Need-returns-in-Done
 unfolding number_of
-returns c = rw c.enum_told.given.1
+returns-in-Done c = rw c.in-Done.is
 
-returns-2 : tie.Need-returns-2
+returns-in-Refused : tie.Need-returns-in-Refused
 unfolding number_of
-returns-2 c = rw c.before.before.reply.given.1 c.number-of-refusal.ensures
+returns-in-Refused c = rw c.in-Refused.is c.number_of_refusal.ensures
 
-pub number-of-spec : {M : Type 1} → statement M
-number-of-spec = tie.close (tie.spec enum_told enum-known-reply number-of-refusal-requires returns returns-2)
+pub number_of_spec : {M : Type 1} → statement M
+number_of_spec = tie.close (tie.spec enum_told-1 enum_known-reply number_of_refusal-requires returns-in-Done returns-in-Refused)

@@ -5,178 +5,178 @@ use Rattle.refusal.specs.Refusals.{told}
 use Rattle.refusal.proofs.number_of_refusal.Statement.{statement}
 use Rattle.refusal.proofs.number_of_refusal.Tie as tie
 
-enum_told : tie.Need-enum-told
-enum_told c = search rules
+enum_told-1 : tie.Need-enum_told-1
+enum_told-1 c = search rules
 
-enum-told-2 : tie.Need-enum-told-2
-enum-told-2 c = search rules
+enum_told-in-Shape : tie.Need-enum_told-in-Shape
+enum_told-in-Shape c = search rules
 
-enum-told-3 : tie.Need-enum-told-3
-enum-told-3 c = search rules
+enum_told-in-Polynomial : tie.Need-enum_told-in-Polynomial
+enum_told-in-Polynomial c = search rules
 
-enum-told-4 : tie.Need-enum-told-4
-enum-told-4 c = search rules
+enum_told-in-Branch : tie.Need-enum_told-in-Branch
+enum_told-in-Branch c = search rules
 
-enum-told-5 : tie.Need-enum-told-5
-enum-told-5 c = search rules
+enum_told-in-Length : tie.Need-enum_told-in-Length
+enum_told-in-Length c = search rules
 
-enum-told-6 : tie.Need-enum-told-6
-enum-told-6 c = search rules
+enum_told-in-Lists : tie.Need-enum_told-in-Lists
+enum_told-in-Lists c = search rules
 
-enum-told-7 : tie.Need-enum-told-7
-enum-told-7 c = search rules
+enum_told-in-Setting : tie.Need-enum_told-in-Setting
+enum_told-in-Setting c = search rules
 
-enum-told-8 : tie.Need-enum-told-8
-enum-told-8 c = search rules
+enum_told-in-Sample : tie.Need-enum_told-in-Sample
+enum_told-in-Sample c = search rules
 
-enum-told-9 : tie.Need-enum-told-9
-enum-told-9 c = search rules
+enum_told-in-Value : tie.Need-enum_told-in-Value
+enum_told-in-Value c = search rules
 
-enum-told-10 : tie.Need-enum-told-10
-enum-told-10 c = search rules
+enum_told-in-ValueInLine : tie.Need-enum_told-in-ValueInLine
+enum_told-in-ValueInLine c = search rules
 
-enum-told-11 : tie.Need-enum-told-11
-enum-told-11 c = search rules
+enum_told-in-Apriori : tie.Need-enum_told-in-Apriori
+enum_told-in-Apriori c = search rules
 
-enum-told-12 : tie.Need-enum-told-12
-enum-told-12 c = search rules
+enum_told-in-Bit : tie.Need-enum_told-in-Bit
+enum_told-in-Bit c = search rules
 
-enum-told-13 : tie.Need-enum-told-13
-enum-told-13 c = search rules
+enum_told-in-Pattern : tie.Need-enum_told-in-Pattern
+enum_told-in-Pattern c = search rules
 
-enum-told-14 : tie.Need-enum-told-14
-enum-told-14 c = search rules
+enum_told-in-Mask : tie.Need-enum_told-in-Mask
+enum_told-in-Mask c = search rules
 
-enum-told-15 : tie.Need-enum-told-15
-enum-told-15 c = search rules
+enum_told-in-Iterations : tie.Need-enum_told-in-Iterations
+enum_told-in-Iterations c = search rules
 
-enum-told-16 : tie.Need-enum-told-16
-enum-told-16 c = search rules
+enum_told-in-Coder : tie.Need-enum_told-in-Coder
+enum_told-in-Coder c = search rules
 
-enum-told-17 : tie.Need-enum-told-17
-enum-told-17 c = search rules
+enum_told-in-NoPath : tie.Need-enum_told-in-NoPath
+enum_told-in-NoPath c = search rules
 
-enum-told-18 : tie.Need-enum-told-18
-enum-told-18 c = search rules
+enum_told-in-ForcedPosition : tie.Need-enum_told-in-ForcedPosition
+enum_told-in-ForcedPosition c = search rules
 
-enum-told-19 : tie.Need-enum-told-19
-enum-told-19 c = search rules
+enum_told-in-NoTail : tie.Need-enum_told-in-NoTail
+enum_told-in-NoTail c = search rules
 
-returns : tie.Need-returns
+returns-in-Text : tie.Need-returns-in-Text
 unfolding told
-returns c = rw c.enum_told.given.1
+returns-in-Text c = rw c.in-Text.is
 
-returns-2 : tie.Need-returns-2
+returns-in-Shape : tie.Need-returns-in-Shape
 unfolding told
-returns-2 c = rw c.enum-told2.given.1
+returns-in-Shape c = rw c.in-Shape.is
 
-returns-3 : tie.Need-returns-3
+returns-in-Polynomial : tie.Need-returns-in-Polynomial
 unfolding told
-returns-3 c = rw c.enum-told3.given.1
+returns-in-Polynomial c = rw c.in-Polynomial.is
 
-returns-4 : tie.Need-returns-4
+returns-in-Branch : tie.Need-returns-in-Branch
 unfolding told
-returns-4 c = rw c.enum-told4.given.1
+returns-in-Branch c = rw c.in-Branch.is
 
-returns-5 : tie.Need-returns-5
+returns-in-Length : tie.Need-returns-in-Length
 unfolding told
-returns-5 c = rw c.enum-told5.given.1
+returns-in-Length c = rw c.in-Length.is
 
-returns-6 : tie.Need-returns-6
+returns-in-Lists : tie.Need-returns-in-Lists
 unfolding told
-returns-6 c = rw c.enum-told6.given.1
+returns-in-Lists c = rw c.in-Lists.is
 
-returns-7 : tie.Need-returns-7
+returns-in-Setting : tie.Need-returns-in-Setting
 unfolding told
-returns-7 c = rw c.enum-told7.given.1
+returns-in-Setting c = rw c.in-Setting.is
 
-returns-8 : tie.Need-returns-8
+returns-in-Sample : tie.Need-returns-in-Sample
 unfolding told
-returns-8 c = rw c.enum-told8.given.1
+returns-in-Sample c = rw c.in-Sample.is
 
-returns-9 : tie.Need-returns-9
+returns-in-Value : tie.Need-returns-in-Value
 unfolding told
-returns-9 c = rw c.enum-told9.given.1
+returns-in-Value c = rw c.in-Value.is
 
-returns-10 : tie.Need-returns-10
+returns-in-ValueInLine : tie.Need-returns-in-ValueInLine
 unfolding told
-returns-10 c = rw c.enum-told10.given.1
+returns-in-ValueInLine c = rw c.in-ValueInLine.is
 
-returns-11 : tie.Need-returns-11
+returns-in-Apriori : tie.Need-returns-in-Apriori
 unfolding told
-returns-11 c = rw c.enum-told11.given.1
+returns-in-Apriori c = rw c.in-Apriori.is
 
-returns-12 : tie.Need-returns-12
+returns-in-Bit : tie.Need-returns-in-Bit
 unfolding told
-returns-12 c = rw c.enum-told12.given.1
+returns-in-Bit c = rw c.in-Bit.is
 
-returns-13 : tie.Need-returns-13
+returns-in-Pattern : tie.Need-returns-in-Pattern
 unfolding told
-returns-13 c = rw c.enum-told13.given.1
+returns-in-Pattern c = rw c.in-Pattern.is
 
-returns-14 : tie.Need-returns-14
+returns-in-Mask : tie.Need-returns-in-Mask
 unfolding told
-returns-14 c = rw c.enum-told14.given.1
+returns-in-Mask c = rw c.in-Mask.is
 
-returns-15 : tie.Need-returns-15
+returns-in-Iterations : tie.Need-returns-in-Iterations
 unfolding told
-returns-15 c = rw c.enum-told15.given.1
+returns-in-Iterations c = rw c.in-Iterations.is
 
-returns-16 : tie.Need-returns-16
+returns-in-Coder : tie.Need-returns-in-Coder
 unfolding told
-returns-16 c = rw c.enum-told16.given.1
+returns-in-Coder c = rw c.in-Coder.is
 
-returns-17 : tie.Need-returns-17
+returns-in-NoPath : tie.Need-returns-in-NoPath
 unfolding told
-returns-17 c = rw c.enum-told17.given.1
+returns-in-NoPath c = rw c.in-NoPath.is
 
-returns-18 : tie.Need-returns-18
+returns-in-ForcedPosition : tie.Need-returns-in-ForcedPosition
 unfolding told
-returns-18 c = rw c.enum-told18.given.1
+returns-in-ForcedPosition c = rw c.in-ForcedPosition.is
 
-returns-19 : tie.Need-returns-19
+returns-in-NoTail : tie.Need-returns-in-NoTail
 unfolding told
-returns-19 c = rw c.enum-told19.given.1
+returns-in-NoTail c = rw c.in-NoTail.is
 
-pub number-of-refusal-spec : {M : Type 1} → statement M
-number-of-refusal-spec =
+pub number_of_refusal_spec : {M : Type 1} → statement M
+number_of_refusal_spec =
     tie.close
     (tie.spec
-    enum_told
-    enum-told-2
-    enum-told-3
-    enum-told-4
-    enum-told-5
-    enum-told-6
-    enum-told-7
-    enum-told-8
-    enum-told-9
-    enum-told-10
-    enum-told-11
-    enum-told-12
-    enum-told-13
-    enum-told-14
-    enum-told-15
-    enum-told-16
-    enum-told-17
-    enum-told-18
-    enum-told-19
-    returns
-    returns-2
-    returns-3
-    returns-4
-    returns-5
-    returns-6
-    returns-7
-    returns-8
-    returns-9
-    returns-10
-    returns-11
-    returns-12
-    returns-13
-    returns-14
-    returns-15
-    returns-16
-    returns-17
-    returns-18
-    returns-19)
+    enum_told-1
+    enum_told-in-Shape
+    enum_told-in-Polynomial
+    enum_told-in-Branch
+    enum_told-in-Length
+    enum_told-in-Lists
+    enum_told-in-Setting
+    enum_told-in-Sample
+    enum_told-in-Value
+    enum_told-in-ValueInLine
+    enum_told-in-Apriori
+    enum_told-in-Bit
+    enum_told-in-Pattern
+    enum_told-in-Mask
+    enum_told-in-Iterations
+    enum_told-in-Coder
+    enum_told-in-NoPath
+    enum_told-in-ForcedPosition
+    enum_told-in-NoTail
+    returns-in-Text
+    returns-in-Shape
+    returns-in-Polynomial
+    returns-in-Branch
+    returns-in-Length
+    returns-in-Lists
+    returns-in-Setting
+    returns-in-Sample
+    returns-in-Value
+    returns-in-ValueInLine
+    returns-in-Apriori
+    returns-in-Bit
+    returns-in-Pattern
+    returns-in-Mask
+    returns-in-Iterations
+    returns-in-Coder
+    returns-in-NoPath
+    returns-in-ForcedPosition
+    returns-in-NoTail)

@@ -39,38 +39,38 @@ placeless NoPath h = refl
 placeless ForcedPosition h = refl
 placeless NoTail h = refl
 
-enum-known-why : tie.Need-enum-known-why
-enum-known-why c = search rules
+enum_known-why : tie.Need-enum_known-why
+enum_known-why c = search rules
 
-enum-known-why-2 : tie.Need-enum-known-why-2
-enum-known-why-2 c = search rules
+enum_known-why-in-Value-1 : tie.Need-enum_known-why-in-Value-1
+enum_known-why-in-Value-1 c = search rules
 
-enum-known-why-3 : tie.Need-enum-known-why-3
-enum-known-why-3 c = search rules
+enum_known-why-in-ValueInLine-1 : tie.Need-enum_known-why-in-ValueInLine-1
+enum_known-why-in-ValueInLine-1 c = search rules
 
-enum-known-why-4 : tie.Need-enum-known-why-4
-enum-known-why-4 c = search rules
+enum_known-why-in-Apriori-1 : tie.Need-enum_known-why-in-Apriori-1
+enum_known-why-in-Apriori-1 c = search rules
 
-returns : tie.Need-returns
+returns-in-Text : tie.Need-returns-in-Text
 unfolding told
-returns c = rw c.before.why.given.1
+returns-in-Text c = rw c.in-Text.is
 
-returns-2 : tie.Need-returns-2
+returns-in-Value : tie.Need-returns-in-Value
 unfolding told
-returns-2 c = rw c.before.why2.given.1
+returns-in-Value c = rw c.in-Value.is
 
-returns-3 : tie.Need-returns-3
+returns-in-ValueInLine : tie.Need-returns-in-ValueInLine
 unfolding told
-returns-3 c = rw c.before.why3.given.1
+returns-in-ValueInLine c = rw c.in-ValueInLine.is
 
-returns-4 : tie.Need-returns-4
+returns-in-Apriori : tie.Need-returns-in-Apriori
 unfolding told
-returns-4 c = rw c.before.why4.given.1
+returns-in-Apriori c = rw c.in-Apriori.is
 
-returns-5 : tie.Need-returns-5
-returns-5 c = placeless _ c.match.keys5
+returns-in_default : tie.Need-returns-in_default
+returns-in_default c = placeless _ c.in_default.in_default-own.keys5
 
-pub place-of-refusal-spec : {M : Type 1} → statement M
-place-of-refusal-spec =
+pub place_of_refusal_spec : {M : Type 1} → statement M
+place_of_refusal_spec =
     tie.close
-    (tie.spec enum-known-why enum-known-why-2 enum-known-why-3 enum-known-why-4 returns returns-2 returns-3 returns-4 returns-5)
+    (tie.spec enum_known-why enum_known-why-in-Value-1 enum_known-why-in-ValueInLine-1 enum_known-why-in-Apriori-1 returns-in-Text returns-in-Value returns-in-ValueInLine returns-in-Apriori returns-in_default)

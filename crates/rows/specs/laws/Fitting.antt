@@ -6,7 +6,7 @@ use Rattle.std.proofs.Common.{sym, ◌∙◌, arith, drop_of_length-le, drop-con
 use Rattle.std.proofs.Math.Bool.{true, false}
 use Rattle.std.proofs.lemmas.Bool.{false≢true}
 use mathlib.Core.List.{List, []}
-use Rattle.std.proofs.Math.Option.{Option, none, some, Option·elim, or_else}
+use Rattle.std.proofs.Math.Option.{Option, none, some, Option-elim, or_else}
 use Rattle.std.proofs.Math.Decide.{dec_lt}
 use Rattle.std.proofs.Math.Numerals.{add-one}
 use Rattle.std.proofs.Math.Dec.{leb}
@@ -74,8 +74,8 @@ line_is {sheet} {i} b ends h =
 -- ---- the reply, test by test
 
 -- the first fault, told
-fault_told : (f : Option ℕ) → Option·elim f Done (λ i. Refused (Text (suc i))) ≡ (check (not (found f)) (Text (Option·elim f 0 suc)) then Done)
-unfolding Option·elim found check ◌then◌
+fault_told : (f : Option ℕ) → Option-elim f Done (λ i. Refused (Text (suc i))) ≡ (check (not (found f)) (Text (Option-elim f 0 suc)) then Done)
+unfolding Option-elim found check ◌then◌
 fault_told none = refl
 fault_told (some i) = refl
 
@@ -114,21 +114,21 @@ module _ (sheet : List ℕ) where
     sized : (leb (length sheet) 16384 && leb 3 rows && leb rows 514) ≡ true
     sized = small _ _ _ (le-leb (length sheet) 16384 short) (le-leb 3 rows least) (le-leb rows 514 most)
 
-    pub text_by : {x : Reply} → x ≡ Option·elim (first_fault sheet) Done (λ i. Refused (Text (suc i))) → x ≡ first_of (text_checks sheet)
+    pub text_by : {x : Reply} → x ≡ Option-elim (first_fault sheet) Done (λ i. Refused (Text (suc i))) → x ≡ first_of (text_checks sheet)
     unfolding text_checks first_of size_fits fault_line
     text_by e = passes_first (Text 0) sized (e ∙ fault_told (first_fault sheet))
 
     pub text_fault : {i : ℕ} → fault_from (message_bits sheet) 0 (lines_of sheet) ≡ some i → Refused (Text (i + 1)) ≡ first_of (text_checks sheet)
-    unfolding first_fault or_else Option·elim
+    unfolding first_fault or_else Option-elim
     text_fault {i} e = text_by (rw (e, add-one i) refl)
 
     pub text_open : fault_from (message_bits sheet) 0 (lines_of sheet) ≡ none → is_empty (last_piece sheet) ≡ false →
         Refused (Text (length (lines_of sheet) + 1)) ≡ first_of (text_checks sheet)
-    unfolding first_fault or_else Option·elim
+    unfolding first_fault or_else Option-elim
     text_open e f = text_by (rw (e, f, add-one (length (lines_of sheet))) refl)
 
     pub text_done : fault_from (message_bits sheet) 0 (lines_of sheet) ≡ none → is_empty (last_piece sheet) ≡ true → Done ≡ first_of (text_checks sheet)
-    unfolding first_fault or_else Option·elim
+    unfolding first_fault or_else Option-elim
     text_done e f = text_by (rw (e, f) refl)
 
 -- ---- a sheet whose text fits: a header, K rows and two more, each with its line feed

@@ -1,7 +1,7 @@
 -- Worked values of samples: the order of the products counts, halves go to the even number, and the limits.
 -- Assumes nothing.
 use Rattle.std.specs.Prelude.{◌≡◌, refl, true, false, List, [], ◌∷◌, ℕ, Float, pos, negsuc}
-use Rattle.std.proofs.Math.Option.{Option·elim}
+use Rattle.std.proofs.Math.Option.{Option-elim}
 use Rattle.std.specs.Float.{nan, inf, fin, binary32}
 use Rattle.std.specs.Float.Ieee.{mul, le, of_bits}
 use Rattle.integers.specs.Integers.{limited, max_ℤ, min_ℤ}
@@ -32,7 +32,7 @@ sample = of_bits binary32 1105348362
 the_order_of_products :
     (sample_value (setting scale (Steady ratio)) sample ≡ pos 98)
     × (nearest_value ((four *ᶠ ratio) *ᶠ (scale *ᶠ sample)) ≡ pos 99)
-unfolding sample_value product reliability nearest_value Option·elim limited max_ℤ min_ℤ mul of_bits
+unfolding sample_value product reliability nearest_value Option-elim limited max_ℤ min_ℤ mul of_bits
 the_order_of_products = (refl, refl)
 
 -- each channel: ratio 1/4 and scale 1 leave a sample of 3 as it is; amplitude 1/2, ratio 3 and scale 8 make 48 of 1; and silent gives 0
@@ -40,7 +40,7 @@ each_channel :
     (sample_value (setting one (Steady (fin false 1 (negsuc 1)))) (fin false 3 (pos 0)) ≡ pos 3)
     × (sample_value (setting (fin false 1 (pos 3)) (Fading (fin false 1 (negsuc 0)) (fin false 3 (pos 0)))) one ≡ pos 48)
     × (sample_value (setting one Silent) one ≡ pos 0)
-unfolding sample_value product reliability nearest_value Option·elim limited max_ℤ min_ℤ mul
+unfolding sample_value product reliability nearest_value Option-elim limited max_ℤ min_ℤ mul
 each_channel = (refl, refl, refl)
 
 -- 0.5, 1.5, 2.5 and -1.5, with reliability·scale of 1; an infinity of either sign, and 1,023.5

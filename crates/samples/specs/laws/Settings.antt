@@ -6,7 +6,7 @@ use Rattle.std.proofs.Common.{sym, ◌∙◌, zero-mul, mul-pos, le_of_eq, arith
 use Rattle.std.specs.Bool.{beq}
 use Rattle.std.proofs.Math.Bool.{and-false}
 use Rattle.std.proofs.lemmas.Bool.{false≢true}
-use Rattle.std.proofs.Math.Option.{Option, none, some, Option·elim}
+use Rattle.std.proofs.Math.Option.{Option, none, some, Option-elim}
 use Rattle.std.proofs.Math.Nat.{sub_self}
 use Rattle.std.specs.Float.{nan, inf, fin, binary32}
 use Rattle.std.specs.Float.Ieee.{up, down, round, sub, eq, le, is_nan, of_bits}
@@ -151,10 +151,10 @@ value_by_factor s x h f = go s.channel
     scale_in : in_range s.scale ≡ true
     scale_in = (and_both (in_range s.scale) (channel_in_range s.channel) h).0
 
-    go : (c : Channel) → nearest_value ((factor c *ᶠ s.scale) *ᶠ x) ≡ Option·elim (Option·elim (reliability c) none (λ r. some ((r *ᶠ s.scale) *ᶠ x))) (pos 0) nearest_value
-    go (Steady ratio) = unfold factor reliability Option·elim in refl
-    go (Fading amplitude ratio) = unfold factor reliability Option·elim in refl
-    go Silent = unfold factor reliability Option·elim in silent_value s.scale x scale_in f
+    go : (c : Channel) → nearest_value ((factor c *ᶠ s.scale) *ᶠ x) ≡ Option-elim (Option-elim (reliability c) none (λ r. some ((r *ᶠ s.scale) *ᶠ x))) (pos 0) nearest_value
+    go (Steady ratio) = unfold factor reliability Option-elim in refl
+    go (Fading amplitude ratio) = unfold factor reliability Option-elim in refl
+    go Silent = unfold factor reliability Option-elim in silent_value s.scale x scale_in f
 
 -- ---- the last product
 
@@ -167,7 +167,7 @@ pub product_is_number : (s : Setting) (x : Float) → setting_fits s ≡ true �
 unfolding product
 product_is_number s x h f = go s.channel (gain_finite s h)
   where
-    go : (c : Channel) → finite (factor c *ᶠ s.scale) ≡ true → IsNumber (Option·elim (reliability c) none (λ r. some ((r *ᶠ s.scale) *ᶠ x)))
-    go (Steady ratio) g = unfold IsNumber reliability Option·elim in product_number _ x (unfold factor in g) f
-    go (Fading amplitude ratio) g = unfold IsNumber reliability Option·elim in product_number _ x (unfold factor in g) f
-    go Silent g = unfold IsNumber reliability Option·elim in tt
+    go : (c : Channel) → finite (factor c *ᶠ s.scale) ≡ true → IsNumber (Option-elim (reliability c) none (λ r. some ((r *ᶠ s.scale) *ᶠ x)))
+    go (Steady ratio) g = unfold IsNumber reliability Option-elim in product_number _ x (unfold factor in g) f
+    go (Fading amplitude ratio) g = unfold IsNumber reliability Option-elim in product_number _ x (unfold factor in g) f
+    go Silent g = unfold IsNumber reliability Option-elim in tt

@@ -3,7 +3,7 @@
 use Rattle.std.specs.Prelude.{◌≡◌, true, false, ◌&&◌, List, [], ◌∷◌, map, ℕ, ◌*◌, Float, ℤ, pos, neg_ℤ}
 use Rattle.std.proofs.Math.Path.{refl, ap}
 use Rattle.std.proofs.Common.{ap₂, ◌∙◌, arith}
-use Rattle.std.proofs.Math.Option.{Option, none, some, Option·elim}
+use Rattle.std.proofs.Math.Option.{Option, none, some, Option-elim}
 use Rattle.std.specs.Float.{nan, inf, fin}
 use Rattle.std.specs.Float.Ieee.{up, down, neg}
 use Rattle.std.specs.Float.Ieee.Nearest.{closest}
@@ -27,11 +27,11 @@ unfolding sample_value product
 sample_opposite s x = go (reliability s.channel)
   where
     by : Float → Option Float → ℤ
-    by y r = Option·elim (Option·elim r none (λ r. some ((r *ᶠ s.scale) *ᶠ y))) (pos 0) nearest_value
+    by y r = Option-elim (Option-elim r none (λ r. some ((r *ᶠ s.scale) *ᶠ y))) (pos 0) nearest_value
 
     go : (r : Option Float) → by (neg x) r ≡ neg_ℤ (by x r)
-    go none = unfold Option·elim in refl
-    go (some r) = unfold Option·elim in ap nearest_value (product_opposite (r *ᶠ s.scale) x) ∙ value_opposite ((r *ᶠ s.scale) *ᶠ x)
+    go none = unfold Option-elim in refl
+    go (some r) = unfold Option-elim in ap nearest_value (product_opposite (r *ᶠ s.scale) x) ∙ value_opposite ((r *ᶠ s.scale) *ᶠ x)
 
 pub values_opposite : (s : Setting) (xs : List Float) → map (sample_value s) (map neg xs) ≡ map neg_ℤ (map (sample_value s) xs)
 values_opposite s [] = refl
@@ -60,9 +60,9 @@ sample_within : (s : Setting) (x : Float) → Within channel_limit (sample_value
 unfolding sample_value
 sample_within s x = go (product s x)
   where
-    go : (p : Option Float) → Within channel_limit (Option·elim p (pos 0) nearest_value)
-    go none = unfold Option·elim in simp ints (omega arith)
-    go (some p) = unfold Option·elim in value_within p
+    go : (p : Option Float) → Within channel_limit (Option-elim p (pos 0) nearest_value)
+    go none = unfold Option-elim in simp ints (omega arith)
+    go (some p) = unfold Option-elim in value_within p
 
 pub values_fit : (s : Setting) (xs : List Float) → channel_fits (map (sample_value s) xs) ≡ true
 unfolding channel_fits every

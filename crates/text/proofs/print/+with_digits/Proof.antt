@@ -32,65 +32,65 @@ abbrev known : ℕ → lts.Claims
 known t = (with-byte-reads.Asked, with-byte-reads.Learnt, called t, own.Post)
 
 module _ (t : ℕ) where
-  cast-with-byte : lts.Need-overflow-cast-with-byte (known t) (entered t) own.Post
-  cast-with-byte c = search rules
+  overflow_cast-n : lts.Need-overflow_cast-n (known t) (entered t) own.Post
+  overflow_cast-n c = search rules
 
-  add-with-byte : lts.Need-overflow-add-with-byte (known t) (entered t) own.Post
-  add-with-byte c = search rules
+  overflow_add-n : lts.Need-overflow_add-n (known t) (entered t) own.Post
+  overflow_add-n c = search rules
 
-  with-byte-requires : lts.Need-with-byte-requires (known t) (entered t) own.Post
-  with-byte-requires c κs = omega (arith, one_digit c.before.args.n c.if1.true, c.before.requires.1)
+  with_byte-requires : lts.Need-with_byte-requires (known t) (entered t) own.Post
+  with_byte-requires c κs = omega (arith, one_digit c.before.args.n c.if-n-lt10.true, c.before.requires.1)
 
-  returns : lts.Need-returns (known t) (entered t) own.Post
-  returns c =
+  returns-then-n-lt10 : lts.Need-returns-then-n-lt10 (known t) (entered t) own.Post
+  returns-then-n-lt10 c =
       let start = c.before.before in
       let n = start.args.n in
-      let one = c.before.if1.true in (
+      let one = c.before.if-n-lt10.true in (
         omega (arith, c.with_byte.ensures.0, one_digit n one),
         c.with_byte.ensures.1 ∙ ap (λ (d : List ℕ). digits_of start.args.text ++ d) (sym (digits_few n one)),
       )
 
-  with-digits-requires : lts.Need-with-digits-requires (known t) (entered t) own.Post
-  with-digits-requires c κs = (omega arith, omega (arith, one_more c.before.args.n c.if1.false, c.before.requires.1))
+  with_digits-front-requires : lts.Need-with_digits-front-requires (known t) (entered t) own.Post
+  with_digits-front-requires c κs = (omega arith, omega (arith, one_more c.before.args.n c.if-n-lt10.false, c.before.requires.1))
 
-  cast-with-byte-2 : lts.Need-overflow-cast-with-byte-2 (known t) (entered t) own.Post
-  cast-with-byte-2 c = search rules
+  overflow_cast-n-2 : lts.Need-overflow_cast-n-2 (known t) (entered t) own.Post
+  overflow_cast-n-2 c = search rules
 
-  add-with-byte-2 : lts.Need-overflow-add-with-byte-2 (known t) (entered t) own.Post
-  add-with-byte-2 c = search rules
+  overflow_add-n-2 : lts.Need-overflow_add-n-2 (known t) (entered t) own.Post
+  overflow_add-n-2 c = search rules
 
-  with-byte-requires-2 : lts.Need-with-byte-requires-2 (known t) (entered t) own.Post
-  with-byte-requires-2 c κs =
-      omega (arith, one_more c.before.before.args.n c.before.if1.false, c.before.before.requires.1, c.with-digits.ensures.0)
+  with_byte-requires-2 : lts.Need-with_byte-requires-2 (known t) (entered t) own.Post
+  with_byte-requires-2 c κs =
+      omega (arith, one_more c.before.before.args.n c.before.if-n-lt10.false, c.before.before.requires.1, c.with_digits-front.ensures.0)
 
-  returns-2 : lts.Need-returns-2 (known t) (entered t) own.Post
-  returns-2 c =
+  returns : lts.Need-returns (known t) (entered t) own.Post
+  returns c =
       let start = c.before.before.before in
       let n = start.args.n in
-      let front = c.before.with-digits in
-      let more = c.before.before.if1.false in
+      let front = c.before.with_digits-front in
+      let more = c.before.before.if-n-lt10.false in
       let text = digits_of start.args.text in
       let last = (48 + n % 10) ∷ [] in (
-        omega (arith, c.with-byte2.ensures.0, front.ensures.0, one_more n more),
-        c.with-byte2.ensures.1
+        omega (arith, c.with_byte-2.ensures.0, front.ensures.0, one_more n more),
+        c.with_byte-2.ensures.1
             ∙ ap (λ (l : List ℕ). l ++ last) front.ensures.1
             ∙ append_assoc text (digits (n / 10)) last
             ∙ ap (λ (d : List ℕ). text ++ d) (sym (digits_more n more)),
       )
 
-pub +with-digits-spec : {M : Type 1} → statement M
-+with-digits-spec =
+pub +with_digits_spec : {M : Type 1} → statement M
++with_digits_spec =
     close μ λ t.
     lts.spec
     (known t)
     (entered t)
     own.Post
-    (cast-with-byte t)
-    (add-with-byte t)
-    (with-byte-requires t)
+    (overflow_cast-n t)
+    (overflow_add-n t)
+    (with_byte-requires t)
+    (returns-then-n-lt10 t)
+    (with_digits-front-requires t)
+    (overflow_cast-n-2 t)
+    (overflow_add-n-2 t)
+    (with_byte-requires-2 t)
     (returns t)
-    (with-digits-requires t)
-    (cast-with-byte-2 t)
-    (add-with-byte-2 t)
-    (with-byte-requires-2 t)
-    (returns-2 t)

@@ -14,45 +14,45 @@ use Rattle.text.specs.laws.Printing.{ten_digits, decimal_minus, decimal_plain}
 use Rattle.text.proofs.print.decimal.Statement.{statement}
 use Rattle.text.proofs.print.decimal.Tie as tie
 
-module _ (c : tie.After-size) where
-  sized : c.size.result ≡ nat_abs c.before.args.z
-  sized = let z = c.before.ranges.z in simp plain at c.size.ensures
+module _ (c : tie.After-size-n) where
+  sized : c.size-n.result ≡ nat_abs c.before.args.z
+  sized = let z = c.before.ranges.z in simp plain at c.size-n.ensures
 
-  few : length (digits c.size.result) ≤ 10
-  few = ten_digits c.size.result (omega (arith, c.size.type-inv))
+  few : length (digits c.size-n.result) ≤ 10
+  few = ten_digits c.size-n.result (omega (arith, c.size-n.type_inv))
 
-size-requires : tie.Need-size-requires
-size-requires c κs = search rules
+size-n-requires : tie.Need-size-n-requires
+size-n-requires c κs = search rules
 
-with-byte-requires : tie.Need-with-byte-requires
-with-byte-requires c κs = search rules
+with_byte-sign-requires : tie.Need-with_byte-sign-requires
+with_byte-sign-requires c κs = search rules
 
-with-digits-requires : tie.Need-with-digits-requires
-with-digits-requires c κs = omega (arith, c.with_byte.ensures.0, few c.before.before)
+with_digits-requires : tie.Need-with_digits-requires
+with_digits-requires c κs = omega (arith, c.with_byte-sign.ensures.0, few c.before.before)
+
+returns-then-z-lt0 : tie.Need-returns-then-z-lt0
+returns-then-z-lt0 c =
+    let after = c.before.before.before in
+    let z = after.before.ranges.z in
+    let negative = simp plain at c.before.before.if-z-lt0.true in (
+      c.with_digits.ensures.1
+          ∙ ap (λ (l : List ℕ). l ++ digits after.size-n.result) c.before.with_byte-sign.ensures.1
+          ∙ ap (λ (n : ℕ). minus ∷ digits n) (sized after)
+          ∙ sym (decimal_minus after.before.args.z negative),
+      omega (arith, c.with_digits.ensures.0, c.before.with_byte-sign.ensures.0, few after),
+    )
+
+with_digits-requires-2 : tie.Need-with_digits-requires-2
+with_digits-requires-2 c κs = omega (arith, few c.before)
 
 returns : tie.Need-returns
 returns c =
-    let after = c.before.before.before in
-    let z = after.before.ranges.z in
-    let negative = simp plain at c.before.before.if1.true in (
-      c.with-digits.ensures.1
-          ∙ ap (λ (l : List ℕ). l ++ digits after.size.result) c.before.with_byte.ensures.1
-          ∙ ap (λ (n : ℕ). minus ∷ digits n) (sized after)
-          ∙ sym (decimal_minus after.before.args.z negative),
-      omega (arith, c.with-digits.ensures.0, c.before.with_byte.ensures.0, few after),
-    )
-
-with-digits-requires-2 : tie.Need-with-digits-requires-2
-with-digits-requires-2 c κs = omega (arith, few c.before)
-
-returns-2 : tie.Need-returns-2
-returns-2 c =
     let after = c.before.before in
     let z = after.before.ranges.z in
-    let not_negative = simp plain at c.before.if1.false in (
-      c.with-digits2.ensures.1 ∙ ap digits (sized after) ∙ sym (decimal_plain after.before.args.z not_negative),
-      omega (arith, c.with-digits2.ensures.0, few after),
+    let not_negative = simp plain at c.before.if-z-lt0.false in (
+      c.with_digits-2.ensures.1 ∙ ap digits (sized after) ∙ sym (decimal_plain after.before.args.z not_negative),
+      omega (arith, c.with_digits-2.ensures.0, few after),
     )
 
-pub decimal-spec : {M : Type 1} → statement M
-decimal-spec = tie.close (tie.spec size-requires with-byte-requires with-digits-requires returns with-digits-requires-2 returns-2)
+pub decimal_spec : {M : Type 1} → statement M
+decimal_spec = tie.close (tie.spec size-n-requires with_byte-sign-requires with_digits-requires returns-then-z-lt0 with_digits-requires-2 returns)

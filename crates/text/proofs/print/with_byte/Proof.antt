@@ -9,11 +9,11 @@ use borrow.Author.Rules.{rules}
 use Rattle.text.proofs.print.with_byte.Statement.{statement}
 use Rattle.text.proofs.print.with_byte.Tie as tie
 
-array-write-bytes : tie.Need-array-write-bytes
-array-write-bytes c = search rules
+bounds-bytes-len : tie.Need-bounds-bytes-len
+bounds-bytes-len c = search rules
 
-add-t8 : tie.Need-overflow-add-t8
-add-t8 c = search rules
+overflow_add-result : tie.Need-overflow_add-result
+overflow_add-result c = search rules
 
 returns : tie.Need-returns
 returns c =
@@ -21,5 +21,5 @@ returns c =
     let room : text.len < length text.bytes = search rules in
     (refl, rw (add-one text.len) (take-suc-set text.bytes text.len c.before.args.byte room))
 
-pub with-byte-spec : {M : Type 1} → statement M
-with-byte-spec = tie.close (tie.spec array-write-bytes add-t8 returns)
+pub with_byte_spec : {M : Type 1} → statement M
+with_byte_spec = tie.close (tie.spec bounds-bytes-len overflow_add-result returns)

@@ -10,33 +10,33 @@ use Rattle.text.specs.laws.Reading.{numeral_short, numeral_long, numeral_other, 
 use Rattle.text.proofs.read.is_numeral.Statement.{statement}
 use Rattle.text.proofs.read.is_numeral.Tie as tie
 
+returns-then-field-lt1 : tie.Need-returns-then-field-lt1
+returns-then-field-lt1 c = sym (numeral_short _ c.if-field-lt1.true)
+
+returns-then-field-gt5 : tie.Need-returns-then-field-gt5
+returns-then-field-gt5 c = sym (numeral_long _ c.before.if-field-lt1.false c.if-field-gt5.true)
+
+all_digits-requires : tie.Need-all_digits-requires
+all_digits-requires c κs = search rules
+
+returns-then-not-all_digits : tie.Need-returns-then-not-all_digits
+returns-then-not-all_digits c =
+    sym (numeral_other _ c.before.before.before.if-field-lt1.false c.before.before.if-field-gt5.false (sym c.before.all_digits.ensures ∙ not-true _ c.if-not-all_digits.true-raw))
+
+digits-all : (c : tie.Else-not-all_digits) → every is_digit c.before.before.before.before.before.args.field.now ≡ true
+digits-all c = sym c.before.all_digits.ensures ∙ not-false _ c.if-not-all_digits.false-raw
+
+returns-then-field-eq1 : tie.Need-returns-then-field-eq1
+returns-then-field-eq1 c =
+    sym (numeral_one _ c.before.before.before.before.if-field-lt1.false c.before.before.before.if-field-gt5.false (digits-all c.before) c.if-field-eq1.true)
+
+bounds-field-0 : tie.Need-bounds-field-0
+bounds-field-0 c = search rules
+
 returns : tie.Need-returns
-returns c = sym (numeral_short _ c.if1.true)
-
-returns-2 : tie.Need-returns-2
-returns-2 c = sym (numeral_long _ c.before.if1.false c.if2.true)
-
-all-digits-requires : tie.Need-all-digits-requires
-all-digits-requires c κs = search rules
-
-returns-3 : tie.Need-returns-3
-returns-3 c =
-    sym (numeral_other _ c.before.before.before.if1.false c.before.before.if2.false (sym c.before.all_digits.ensures ∙ not-true _ c.if3.true))
-
-digits-all : (c : tie.Else3) → every is_digit c.before.before.before.before.before.args.field.now ≡ true
-digits-all c = sym c.before.all_digits.ensures ∙ not-false _ c.if3.false
-
-returns-4 : tie.Need-returns-4
-returns-4 c =
-    sym (numeral_one _ c.before.before.before.before.if1.false c.before.before.before.if2.false (digits-all c.before) c.if4.true)
-
-shared-slice-read-result : tie.Need-shared-slice-read-result
-shared-slice-read-result c = search rules
-
-returns-5 : tie.Need-returns-5
-returns-5 c =
+returns c =
     let short = c.before.before.before.before in
-    sym (numeral_several _ short.before.if1.false short.if2.false (digits-all c.before.before) c.before.if4.false)
+    sym (numeral_several _ short.before.if-field-lt1.false short.if-field-gt5.false (digits-all c.before.before) c.before.if-field-eq1.false)
 
-pub is-numeral-spec : {M : Type 1} → statement M
-is-numeral-spec = tie.close (tie.spec returns returns-2 all-digits-requires returns-3 returns-4 shared-slice-read-result returns-5)
+pub is_numeral_spec : {M : Type 1} → statement M
+is_numeral_spec = tie.close (tie.spec returns-then-field-lt1 returns-then-field-gt5 all_digits-requires returns-then-not-all_digits returns-then-field-eq1 bounds-field-0 returns)

@@ -15,37 +15,37 @@ use Rattle.text.specs.laws.Reading.{value_small, small_fits, small_signed, oppos
 use Rattle.text.proofs.read.opposite.Statement.{statement}
 use Rattle.text.proofs.read.opposite.Tie as tie
 
-yes : (c : tie.Else1) → numeral c.before.before.before.args.field.now ≡ true
-yes c = sym c.before.is-numeral.ensures ∙ not-false _ c.if1.false
+yes : (c : tie.Else-not-is_numeral) → numeral c.before.before.before.args.field.now ≡ true
+yes c = sym c.before.is_numeral.ensures ∙ not-false _ c.if-not-is_numeral.false-raw
 
-small : (c : tie.After-value) → c.value.result < 100000
-small c = omega (arith, value_small _ (yes c.before), c.value.ensures)
+small : (c : tie.After-value-n) → c.value-n.result < 100000
+small c = omega (arith, value_small _ (yes c.before), c.value-n.ensures)
 
-is-numeral-requires : tie.Need-is-numeral-requires
-is-numeral-requires c κs = search rules
+is_numeral-requires : tie.Need-is_numeral-requires
+is_numeral-requires c κs = search rules
+
+returns-then-not-is_numeral : tie.Need-returns-then-not-is_numeral
+returns-then-not-is_numeral c = sym (opposite_no _ (sym c.before.is_numeral.ensures ∙ not-true _ c.if-not-is_numeral.true-raw))
+
+value-n-requires : tie.Need-value-n-requires
+value-n-requires c κs = yes c
+
+returns-then-n-eq0 : tie.Need-returns-then-n-eq0
+returns-then-n-eq0 c = sym (opposite_zero _ (yes c.before.before) (sym c.before.value-n.ensures ∙ c.if-n-eq0.true))
+
+overflow_cast-result : tie.Need-overflow_cast-result
+overflow_cast-result c = small_fits (small c.before)
+
+overflow_sub-result : tie.Need-overflow_sub-result
+overflow_sub-result c = let s = small c.before in rw (small_signed s) (simp ints (omega arith))
 
 returns : tie.Need-returns
-returns c = sym (opposite_no _ (sym c.before.is-numeral.ensures ∙ not-true _ c.if1.true))
-
-value-requires : tie.Need-value-requires
-value-requires c κs = yes c
-
-returns-2 : tie.Need-returns-2
-returns-2 c = sym (opposite_zero _ (yes c.before.before) (sym c.before.value.ensures ∙ c.if2.true))
-
-cast-t5 : tie.Need-overflow-cast-t5
-cast-t5 c = small_fits (small c.before)
-
-sub-t6 : tie.Need-overflow-sub-t6
-sub-t6 c = let s = small c.before in rw (small_signed s) (simp ints (omega arith))
-
-returns-3 : tie.Need-returns-3
-returns-3 c =
-    let n = c.before.value.ensures in
-    ap some (to_z-of_z (sub-t6 c))
+returns c =
+    let n = c.before.value-n.ensures in
+    ap some (to_z-of_z (overflow_sub-result c))
     ∙ ap (λ z. some (pos 0 -ℤ z)) (small_signed (small c.before))
     ∙ ap (λ (n : ℕ). some (pos 0 -ℤ pos n)) n
-    ∙ sym (opposite_yes _ (yes c.before.before) (λ e. c.if2.false (n ∙ e)))
+    ∙ sym (opposite_yes _ (yes c.before.before) (λ e. c.if-n-eq0.false (n ∙ e)))
 
-pub opposite-spec : {M : Type 1} → statement M
-opposite-spec = tie.close (tie.spec is-numeral-requires returns value-requires returns-2 cast-t5 sub-t6 returns-3)
+pub opposite_spec : {M : Type 1} → statement M
+opposite_spec = tie.close (tie.spec is_numeral-requires returns-then-not-is_numeral value-n-requires returns-then-n-eq0 overflow_cast-result overflow_sub-result returns)

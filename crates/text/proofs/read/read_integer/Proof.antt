@@ -16,8 +16,8 @@ use Rattle.text.specs.laws.Reading.{value_small, small_fits, small_signed, natur
 use Rattle.text.proofs.read.read_integer.Statement.{statement}
 use Rattle.text.proofs.read.read_integer.Tie as tie
 
-yes : (c : tie.Else3) → numeral c.before.before.before.before.before.before.args.field.now ≡ true
-yes c = sym c.before.is-numeral.ensures ∙ not-false _ c.if3.false
+yes : (c : tie.Else-not-is_numeral) → numeral c.before.before.before.before.before.before.args.field.now ≡ true
+yes c = sym c.before.is_numeral.ensures ∙ not-false _ c.if-not-is_numeral.false-raw
 
 small : (c : tie.After-value) → c.value.result < 100000
 small c = omega (arith, value_small _ (yes c.before), c.value.ensures)
@@ -26,61 +26,61 @@ small c = omega (arith, value_small _ (yes c.before), c.value.ensures)
 rest : (ds : List ℕ) → take (length ds - 1) (drop 1 ds) ≡ drop 1 ds
 rest ds = take_all (length ds - 1) (drop 1 ds) (omega (arith, length-drop 1 ds))
 
-returns : tie.Need-returns
-returns c = sym (integer_nothing _ c.if1.true)
+returns-then-field-lt1 : tie.Need-returns-then-field-lt1
+returns-then-field-lt1 c = sym (integer_nothing _ c.if-field-lt1.true)
 
-shared-slice-read-if2 : tie.Need-shared-slice-read-if2
-shared-slice-read-if2 c = search rules
+bounds-field-0 : tie.Need-bounds-field-0
+bounds-field-0 c = search rules
 
-sub-opposite : tie.Need-overflow-sub-opposite
-sub-opposite c = search rules
+slice_bounds-opposite-count : tie.Need-slice_bounds-opposite-count
+slice_bounds-opposite-count c = search rules
 
-part-opposite-start : tie.Need-slice-bounds-opposite-start
-part-opposite-start c = search rules
+slice_bounds-opposite-start : tie.Need-slice_bounds-opposite-start
+slice_bounds-opposite-start c = search rules
 
-part-opposite-end : tie.Need-slice-bounds-opposite-end
-part-opposite-end c = search rules
+slice_bounds-opposite-end : tie.Need-slice_bounds-opposite-end
+slice_bounds-opposite-end c = search rules
 
 opposite-requires : tie.Need-opposite-requires
 opposite-requires c κs = search rules
 
-returns-2 : tie.Need-returns-2
-returns-2 c =
+returns-then-field-eq45 : tie.Need-returns-then-field-eq45
+returns-then-field-eq45 c =
     let field = c.before.before.before.before.before.before.args.field.now in
-    c.opposite.ensures ∙ ap (λ (l : List ℕ). bind (natural l) opposite) (rest field) ∙ sym (integer_minus field c.before.before.if2.true)
+    c.opposite.ensures ∙ ap (λ (l : List ℕ). bind (natural l) opposite) (rest field) ∙ sym (integer_minus field c.before.before.if-field-eq45.true)
 
-is-numeral-requires : tie.Need-is-numeral-requires
-is-numeral-requires c κs = search rules
+is_numeral-requires : tie.Need-is_numeral-requires
+is_numeral-requires c κs = search rules
 
-returns-3 : tie.Need-returns-3
-returns-3 c =
-    let no = sym c.before.is-numeral.ensures ∙ not-true _ c.if3.true in
-    sym (integer_plain _ c.before.before.if2.false ∙ ap (map pos) (natural_no _ no))
+returns-then-not-is_numeral : tie.Need-returns-then-not-is_numeral
+returns-then-not-is_numeral c =
+    let no = sym c.before.is_numeral.ensures ∙ not-true _ c.if-not-is_numeral.true-raw in
+    sym (integer_plain _ c.before.before.if-field-eq45.false ∙ ap (map pos) (natural_no _ no))
 
 value-requires : tie.Need-value-requires
 value-requires c κs = yes c
 
-cast-t12 : tie.Need-overflow-cast-t12
-cast-t12 c = small_fits (small c)
+overflow_cast-result : tie.Need-overflow_cast-result
+overflow_cast-result c = small_fits (small c)
 
-returns-4 : tie.Need-returns-4
-returns-4 c =
+returns : tie.Need-returns
+returns c =
     ap some (small_signed (small c) ∙ ap pos c.value.ensures)
-    ∙ sym (integer_plain _ c.before.before.before.if2.false ∙ ap (map pos) (natural_yes _ (yes c.before)))
+    ∙ sym (integer_plain _ c.before.before.before.if-field-eq45.false ∙ ap (map pos) (natural_yes _ (yes c.before)))
 
-pub read-integer-spec : {M : Type 1} → statement M
-read-integer-spec =
+pub read_integer_spec : {M : Type 1} → statement M
+read_integer_spec =
     tie.close
     (tie.spec
-    returns
-    shared-slice-read-if2
-    sub-opposite
-    part-opposite-start
-    part-opposite-end
+    returns-then-field-lt1
+    bounds-field-0
+    slice_bounds-opposite-count
+    slice_bounds-opposite-start
+    slice_bounds-opposite-end
     opposite-requires
-    returns-2
-    is-numeral-requires
-    returns-3
+    returns-then-field-eq45
+    is_numeral-requires
+    returns-then-not-is_numeral
     value-requires
-    cast-t12
-    returns-4)
+    overflow_cast-result
+    returns)

@@ -10,20 +10,20 @@ use Rattle.text.specs.laws.Reading.{natural_yes, natural_no}
 use Rattle.text.proofs.read.read_natural.Statement.{statement}
 use Rattle.text.proofs.read.read_natural.Tie as tie
 
-is-numeral-requires : tie.Need-is-numeral-requires
-is-numeral-requires c κs = search rules
+is_numeral-requires : tie.Need-is_numeral-requires
+is_numeral-requires c κs = search rules
 
-returns : tie.Need-returns
-returns c = sym (natural_no _ (sym c.before.is-numeral.ensures ∙ not-true _ c.if1.true))
+returns-then-not-is_numeral : tie.Need-returns-then-not-is_numeral
+returns-then-not-is_numeral c = sym (natural_no _ (sym c.before.is_numeral.ensures ∙ not-true _ c.if-not-is_numeral.true-raw))
 
-yes : (c : tie.Else1) → numeral c.before.before.before.args.field.now ≡ true
-yes c = sym c.before.is-numeral.ensures ∙ not-false _ c.if1.false
+yes : (c : tie.Else-not-is_numeral) → numeral c.before.before.before.args.field.now ≡ true
+yes c = sym c.before.is_numeral.ensures ∙ not-false _ c.if-not-is_numeral.false-raw
 
 value-requires : tie.Need-value-requires
 value-requires c κs = yes c
 
-returns-2 : tie.Need-returns-2
-returns-2 c = ap some c.value.ensures ∙ sym (natural_yes _ (yes c.before))
+returns : tie.Need-returns
+returns c = ap some c.value.ensures ∙ sym (natural_yes _ (yes c.before))
 
-pub read-natural-spec : {M : Type 1} → statement M
-read-natural-spec = tie.close (tie.spec is-numeral-requires returns value-requires returns-2)
+pub read_natural_spec : {M : Type 1} → statement M
+read_natural_spec = tie.close (tie.spec is_numeral-requires returns-then-not-is_numeral value-requires returns)

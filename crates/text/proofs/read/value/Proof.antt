@@ -12,56 +12,56 @@ use Rattle.text.specs.laws.Reading.{numeral_is, value_more, value_so_far}
 use Rattle.text.proofs.read.value.Statement.{statement}
 use Rattle.text.proofs.read.value.Tie as tie
 
-abbrev invariant-loop : tie.invariant-loop
+abbrev invariant-loop : tie.invariant-loop-i
 invariant-loop field v₀ i₀ v i = (i ≤ length field) × (v ≡ value_of (take i field))
 
-abbrev decreases-loop : tie.decreases-loop
+abbrev decreases-loop : tie.decreases-loop-i
 decreases-loop field v₀ i₀ v i = length field - i
 
-module _ (c : tie.In-loop invariant-loop decreases-loop) where
+module _ (c : tie.In-loop-i invariant-loop decreases-loop) where
   abbrev digits : List ℕ
   digits = c.before.before.args.field.now
 
-  small : c.before.loop.v < 100000
-  small = omega (arith, value_so_far digits c.before.before.requires c.before.loop.i c.before.loop.invariant.0, c.before.loop.invariant.1)
+  small : c.before.loop-i.v < 100000
+  small = omega (arith, value_so_far digits c.before.before.requires c.before.loop-i.i c.before.loop-i.invariant.0, c.before.loop-i.invariant.1)
 
-  digit : (48 ≤ get_or digits c.before.loop.i 0) × (get_or digits c.before.loop.i 0 ≤ 57)
-  digit = (numeral_is digits c.before.before.requires).digit c.before.loop.i c.loop-test.true
+  digit : (48 ≤ get_or digits c.before.loop-i.i 0) × (get_or digits c.before.loop-i.i 0 ≤ 57)
+  digit = (numeral_is digits c.before.before.requires).digit c.before.loop-i.i c.loop-i-test.true
 
-loop-holds : tie.Need-loop-init invariant-loop decreases-loop
-loop-holds c = (search rules, refl)
+loop-i-init : tie.Need-loop-i-init invariant-loop decreases-loop
+loop-i-init c = (search rules, refl)
 
-mul-v : tie.Need-overflow-mul-v invariant-loop decreases-loop
-mul-v c = omega (arith, small c)
+overflow_mul-v : tie.Need-overflow_mul-v invariant-loop decreases-loop
+overflow_mul-v c = omega (arith, small c)
 
-shared-slice-read-v : tie.Need-shared-slice-read-v invariant-loop decreases-loop
-shared-slice-read-v c = search rules
+bounds-field-i : tie.Need-bounds-field-i invariant-loop decreases-loop
+bounds-field-i c = search rules
 
-sub-v : tie.Need-overflow-sub-v invariant-loop decreases-loop
-sub-v c = (digit c.before).0
+overflow_sub-v : tie.Need-overflow_sub-v invariant-loop decreases-loop
+overflow_sub-v c = (digit c.before).0
 
-cast-v : tie.Need-overflow-cast-v invariant-loop decreases-loop
-cast-v c = omega (arith, digit c.before)
+overflow_cast-v : tie.Need-overflow_cast-v invariant-loop decreases-loop
+overflow_cast-v c = omega (arith, digit c.before)
 
-add-v : tie.Need-overflow-add-v invariant-loop decreases-loop
-add-v c = omega (arith, small c.before, digit c.before)
+overflow_add-v : tie.Need-overflow_add-v invariant-loop decreases-loop
+overflow_add-v c = omega (arith, small c.before, digit c.before)
 
-add-i : tie.Need-overflow-add-i invariant-loop decreases-loop
-add-i c = search rules
+overflow_add-i : tie.Need-overflow_add-i invariant-loop decreases-loop
+overflow_add-i c = search rules
 
-loop-less : tie.Need-loop-smaller invariant-loop decreases-loop
-loop-less c = search rules
+loop-i-smaller : tie.Need-loop-i-smaller invariant-loop decreases-loop
+loop-i-smaller c = search rules
 
-loop-again : tie.Need-loop-preserved invariant-loop decreases-loop
-loop-again c =
-    let loop = c.before.before.loop in (
+loop-i-preserved : tie.Need-loop-i-preserved invariant-loop decreases-loop
+loop-i-preserved c =
+    let loop = c.before.before.loop-i in (
       omega arith,
       ap (λ (v : ℕ). 10 * v + (get_or (digits c.before) loop.i 0 - 48)) loop.invariant.1
-          ∙ sym (value_more (digits c.before) loop.i c.before.loop-test.true),
+          ∙ sym (value_more (digits c.before) loop.i c.before.loop-i-test.true),
     )
 
 returns : tie.Need-returns invariant-loop decreases-loop
-returns c = c.before.loop.invariant.1 ∙ ap value_of (take_all _ _ c.loop-test.false)
+returns c = c.before.loop-i.invariant.1 ∙ ap value_of (take_all _ _ c.loop-i-test.false)
 
 pub value_spec : {M : Type 1} → statement M
 value_spec =
@@ -69,13 +69,13 @@ value_spec =
     (tie.spec
     invariant-loop
     decreases-loop
-    loop-holds
-    mul-v
-    shared-slice-read-v
-    sub-v
-    cast-v
-    add-v
-    add-i
-    loop-less
-    loop-again
+    loop-i-init
+    overflow_mul-v
+    bounds-field-i
+    overflow_sub-v
+    overflow_cast-v
+    overflow_add-v
+    overflow_add-i
+    loop-i-smaller
+    loop-i-preserved
     returns)

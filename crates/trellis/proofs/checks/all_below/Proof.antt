@@ -12,47 +12,47 @@ use Rattle.lists.specs.laws.Every.{at_every, every_not}
 use Rattle.trellis.proofs.checks.all_below.Statement.{statement}
 use Rattle.trellis.proofs.checks.all_below.Tie as tie
 
-abbrev invariant-loop : tie.invariant-loop
+abbrev invariant-loop : tie.invariant-loop-i
 invariant-loop xs limit i₀ i = (i ≤ length xs) × ((k : ℕ) → k < i → ltb (get_or xs k 0) limit ≡ true)
 
-abbrev decreases-loop : tie.decreases-loop
+abbrev decreases-loop : tie.decreases-loop-i
 decreases-loop xs limit i₀ i = length xs - i
 
-loop-holds : tie.Need-loop-init invariant-loop decreases-loop
-loop-holds c = (search rules, λ k h. absurd (omega arith))
+loop-i-init : tie.Need-loop-i-init invariant-loop decreases-loop
+loop-i-init c = (search rules, λ k h. absurd (omega arith))
 
-shared-slice-read-x : tie.Need-shared-slice-read-x invariant-loop decreases-loop
-shared-slice-read-x c = search rules
+bounds-xs-i : tie.Need-bounds-xs-i invariant-loop decreases-loop
+bounds-xs-i c = search rules
 
-cast-x : tie.Need-overflow-cast-x invariant-loop decreases-loop
-cast-x c = omega (arith, c.shared-slice-known.given c.before.before.loop.i)
+overflow_cast-x : tie.Need-overflow_cast-x invariant-loop decreases-loop
+overflow_cast-x c = omega (arith, c.shared_slice_known-1.given c.before.before.loop-i.i)
+
+returns-then-limit-x : tie.Need-returns-then-limit-x invariant-loop decreases-loop
+returns-then-limit-x c = sym (every_not _ 0 _ _ (le-ltb _ _ c.if-limit-x.true) c.before.before.loop-i-test.true)
+
+overflow_add-i : tie.Need-overflow_add-i invariant-loop decreases-loop
+overflow_add-i c = search rules
+
+loop-i-smaller : tie.Need-loop-i-smaller invariant-loop decreases-loop
+loop-i-smaller c = search rules
+
+loop-i-preserved : tie.Need-loop-i-preserved invariant-loop decreases-loop
+loop-i-preserved c = (omega arith, below_more _ _ c.before.before.before.loop-i.invariant.1 (lt-ltb _ _ c.if-limit-x.false))
 
 returns : tie.Need-returns invariant-loop decreases-loop
-returns c = sym (every_not _ 0 _ _ (le-ltb _ _ c.if1.true) c.before.before.loop-test.true)
+returns c = sym (at_every _ 0 _ (λ k h. c.before.loop-i.invariant.1 k (omega arith)))
 
-add-i : tie.Need-overflow-add-i invariant-loop decreases-loop
-add-i c = search rules
-
-loop-less : tie.Need-loop-smaller invariant-loop decreases-loop
-loop-less c = search rules
-
-loop-again : tie.Need-loop-preserved invariant-loop decreases-loop
-loop-again c = (omega arith, below_more _ _ c.before.before.before.loop.invariant.1 (lt-ltb _ _ c.if1.false))
-
-returns-2 : tie.Need-returns-2 invariant-loop decreases-loop
-returns-2 c = sym (at_every _ 0 _ (λ k h. c.before.loop.invariant.1 k (omega arith)))
-
-pub all-below-spec : {M : Type 1} → statement M
-all-below-spec =
+pub all_below_spec : {M : Type 1} → statement M
+all_below_spec =
     tie.close
     (tie.spec
     invariant-loop
     decreases-loop
-    loop-holds
-    shared-slice-read-x
-    cast-x
-    returns
-    add-i
-    loop-less
-    loop-again
-    returns-2)
+    loop-i-init
+    bounds-xs-i
+    overflow_cast-x
+    returns-then-limit-x
+    overflow_add-i
+    loop-i-smaller
+    loop-i-preserved
+    returns)

@@ -15,5 +15,5 @@ returns c =
     let fits = c.before.ranges.x in
     rw (simp plain at c.size.ensures) refl
 
-pub inside-spec : {M : Type 1} → statement M
-inside-spec = tie.close (tie.spec size-requires returns)
+pub inside_spec : {M : Type 1} → statement M
+inside_spec = tie.close (tie.spec size-requires returns)

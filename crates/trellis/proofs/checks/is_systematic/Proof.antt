@@ -46,73 +46,73 @@ module _ (words : List ℕ) (s : ℕ) where
   not-own-there : length words / 2 ≤ s → own words s ≡ false
   not-own-there h = not-own-one (λ e. let z = get_or-eq_default words 0 {n = 2 * s + 1} (omega arith) in omega arith)
 
-abbrev invariant-loop : tie.invariant-loop
+abbrev invariant-loop : tie.invariant-loop-s
 invariant-loop states outputs next words s₀ s = (s ≤ states) × ((r : ℕ) → r < s → own words r ≡ true)
 
-abbrev decreases-loop : tie.decreases-loop
+abbrev decreases-loop : tie.decreases-loop-s
 decreases-loop states outputs next words s₀ s = states - s
 
 -- a state that fails settles it
-failed : (c : tie.In-loop invariant-loop decreases-loop) → own c.before.before.args.words.now c.before.loop.s ≡ false → false ≡ systematic (table_of c.before.before.args.states c.before.before.args.outputs c.before.before.args.next.now c.before.before.args.words.now)
-failed c e = sym (by-own _ _ _ _ ∙ every_upto_not (own c.before.before.args.words.now) _ _ e c.loop-test.true)
+failed : (c : tie.In-loop-s invariant-loop decreases-loop) → own c.before.before.args.words.now c.before.loop-s.s ≡ false → false ≡ systematic (table_of c.before.before.args.states c.before.before.args.outputs c.before.before.args.next.now c.before.before.args.words.now)
+failed c e = sym (by-own _ _ _ _ ∙ every_upto_not (own c.before.before.args.words.now) _ _ e c.loop-s-test.true)
 
-loop-holds : tie.Need-loop-init invariant-loop decreases-loop
-loop-holds c = (omega arith, λ r h. absurd (omega arith))
+loop-s-init : tie.Need-loop-s-init invariant-loop decreases-loop
+loop-s-init c = (omega arith, λ r h. absurd (omega arith))
+
+returns-then-words-s : tie.Need-returns-then-words-s invariant-loop decreases-loop
+returns-then-words-s c = failed c.before (not-own-there _ _ c.if-words-s.true)
+
+overflow_mul-s : tie.Need-overflow_mul-s invariant-loop decreases-loop
+overflow_mul-s c = search rules
+
+bounds-words-s : tie.Need-bounds-words-s invariant-loop decreases-loop
+bounds-words-s c = search rules
+
+returns-then-words-s-ne0 : tie.Need-returns-then-words-s-ne0 invariant-loop decreases-loop
+returns-then-words-s-ne0 c = failed c.before.before.before (not-own-zero _ _ c.if-words-s-ne0.true)
+
+overflow_mul-s-in-loop-s : tie.Need-overflow_mul-s-in-loop-s invariant-loop decreases-loop
+overflow_mul-s-in-loop-s c = search rules
+
+overflow_add-s : tie.Need-overflow_add-s invariant-loop decreases-loop
+overflow_add-s c = search rules
+
+bounds-words-s-in-loop-s : tie.Need-bounds-words-s-in-loop-s invariant-loop decreases-loop
+bounds-words-s-in-loop-s c = search rules
+
+returns-then-words-s-ne1 : tie.Need-returns-then-words-s-ne1 invariant-loop decreases-loop
+returns-then-words-s-ne1 c = failed c.before.before.before.before.before (not-own-one _ _ c.if-words-s-ne1.true)
+
+overflow_add-s-in-loop-s : tie.Need-overflow_add-s-in-loop-s invariant-loop decreases-loop
+overflow_add-s-in-loop-s c = search rules
+
+loop-s-smaller : tie.Need-loop-s-smaller invariant-loop decreases-loop
+loop-s-smaller c = search rules
+
+loop-s-preserved : tie.Need-loop-s-preserved invariant-loop decreases-loop
+loop-s-preserved c =
+    let at = c.before.before.before.before.before.before in
+    (omega arith, below_more _ _ at.loop-s.invariant.1 (own-both _ at.loop-s.s c.before.before.if-words-s-ne0.false c.if-words-s-ne1.false))
 
 returns : tie.Need-returns invariant-loop decreases-loop
-returns c = failed c.before (not-own-there _ _ c.if1.true)
+returns c = sym (by-own _ _ _ _ ∙ at_every_upto (own c.before.before.args.words.now) c.before.before.args.states (λ r h. c.before.loop-s.invariant.1 r (omega arith)))
 
-mul-if2 : tie.Need-overflow-mul-if2 invariant-loop decreases-loop
-mul-if2 c = search rules
-
-shared-slice-read-if2 : tie.Need-shared-slice-read-if2 invariant-loop decreases-loop
-shared-slice-read-if2 c = search rules
-
-returns-2 : tie.Need-returns-2 invariant-loop decreases-loop
-returns-2 c = failed c.before.before.before (not-own-zero _ _ c.if2.true)
-
-mul-if3 : tie.Need-overflow-mul-if3 invariant-loop decreases-loop
-mul-if3 c = search rules
-
-add-if3 : tie.Need-overflow-add-if3 invariant-loop decreases-loop
-add-if3 c = search rules
-
-shared-slice-read-if3 : tie.Need-shared-slice-read-if3 invariant-loop decreases-loop
-shared-slice-read-if3 c = search rules
-
-returns-3 : tie.Need-returns-3 invariant-loop decreases-loop
-returns-3 c = failed c.before.before.before.before.before (not-own-one _ _ c.if3.true)
-
-add-s : tie.Need-overflow-add-s invariant-loop decreases-loop
-add-s c = search rules
-
-loop-less : tie.Need-loop-smaller invariant-loop decreases-loop
-loop-less c = search rules
-
-loop-again : tie.Need-loop-preserved invariant-loop decreases-loop
-loop-again c =
-    let at = c.before.before.before.before.before.before in
-    (omega arith, below_more _ _ at.loop.invariant.1 (own-both _ at.loop.s c.before.before.if2.false c.if3.false))
-
-returns-4 : tie.Need-returns-4 invariant-loop decreases-loop
-returns-4 c = sym (by-own _ _ _ _ ∙ at_every_upto (own c.before.before.args.words.now) c.before.before.args.states (λ r h. c.before.loop.invariant.1 r (omega arith)))
-
-pub is-systematic-spec : {M : Type 1} → statement M
-is-systematic-spec =
+pub is_systematic_spec : {M : Type 1} → statement M
+is_systematic_spec =
     tie.close
     (tie.spec
     invariant-loop
     decreases-loop
-    loop-holds
-    returns
-    mul-if2
-    shared-slice-read-if2
-    returns-2
-    mul-if3
-    add-if3
-    shared-slice-read-if3
-    returns-3
-    add-s
-    loop-less
-    loop-again
-    returns-4)
+    loop-s-init
+    returns-then-words-s
+    overflow_mul-s
+    bounds-words-s
+    returns-then-words-s-ne0
+    overflow_mul-s-in-loop-s
+    overflow_add-s
+    bounds-words-s-in-loop-s
+    returns-then-words-s-ne1
+    overflow_add-s-in-loop-s
+    loop-s-smaller
+    loop-s-preserved
+    returns)

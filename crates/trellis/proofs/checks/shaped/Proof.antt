@@ -7,43 +7,43 @@ use Rattle.trellis.specs.Table.{shaped}
 use Rattle.trellis.proofs.checks.shaped.Statement.{statement}
 use Rattle.trellis.proofs.checks.shaped.Tie as tie
 
+returns-then-states-lt1 : tie.Need-returns-then-states-lt1
+unfolding shaped
+returns-then-states-lt1 c = simp (lt-leb _ _ c.if-states-lt1.true)
+
+returns-then-states-gt16 : tie.Need-returns-then-states-gt16
+unfolding shaped
+returns-then-states-gt16 c = simp (lt-leb _ _ c.if-states-gt16.true, and-false)
+
+returns-then-outputs-lt1 : tie.Need-returns-then-outputs-lt1
+unfolding shaped
+returns-then-outputs-lt1 c = simp (lt-leb _ _ c.if-outputs-lt1.true, and-false)
+
+returns-then-outputs-gt4 : tie.Need-returns-then-outputs-gt4
+unfolding shaped
+returns-then-outputs-gt4 c = simp (lt-leb _ _ c.if-outputs-gt4.true, and-false)
+
+overflow_mul-states : tie.Need-overflow_mul-states
+overflow_mul-states c = search rules
+
+returns-then-next-states : tie.Need-returns-then-next-states
+unfolding shaped
+returns-then-next-states c = simp (ne_eqb _ _ c.if-next-states.true, and-false)
+
+overflow_mul-result : tie.Need-overflow_mul-result
+overflow_mul-result c = search rules
+
 returns : tie.Need-returns
 unfolding shaped
-returns c = simp (lt-leb _ _ c.if1.true)
-
-returns-2 : tie.Need-returns-2
-unfolding shaped
-returns-2 c = simp (lt-leb _ _ c.if2.true, and-false)
-
-returns-3 : tie.Need-returns-3
-unfolding shaped
-returns-3 c = simp (lt-leb _ _ c.if3.true, and-false)
-
-returns-4 : tie.Need-returns-4
-unfolding shaped
-returns-4 c = simp (lt-leb _ _ c.if4.true, and-false)
-
-mul-if5 : tie.Need-overflow-mul-if5
-mul-if5 c = search rules
-
-returns-5 : tie.Need-returns-5
-unfolding shaped
-returns-5 c = simp (ne_eqb _ _ c.if5.true, and-false)
-
-mul-result : tie.Need-overflow-mul-result
-mul-result c = search rules
-
-returns-6 : tie.Need-returns-6
-unfolding shaped
-returns-6 c =
+returns c =
     let at = c.before in
     rw (
-      le-leb _ _ at.before.before.before.if1.false,
-      le-leb _ _ at.before.before.if2.false,
-      le-leb _ _ at.before.if3.false,
-      le-leb _ _ at.if4.false,
-      eq-eqb _ _ c.if5.false,
+      le-leb _ _ at.before.before.before.if-states-lt1.false,
+      le-leb _ _ at.before.before.if-states-gt16.false,
+      le-leb _ _ at.before.if-outputs-lt1.false,
+      le-leb _ _ at.if-outputs-gt4.false,
+      eq-eqb _ _ c.if-next-states.false,
     )
 
-pub shaped-spec : {M : Type 1} → statement M
-shaped-spec = tie.close (tie.spec returns returns-2 returns-3 returns-4 mul-if5 returns-5 mul-result returns-6)
+pub shaped_spec : {M : Type 1} → statement M
+shaped_spec = tie.close (tie.spec returns-then-states-lt1 returns-then-states-gt16 returns-then-outputs-lt1 returns-then-outputs-gt4 overflow_mul-states returns-then-next-states overflow_mul-result returns)

@@ -15,33 +15,33 @@ use Rattle.trellis.proofs.checks.size.Tie as tie
 own-size : (z : ℤ) → pos 0 ≤ℤ z → SFits w32 z → T (non_neg z) × Fits w32 (nat_abs z)
 own-size z h f = (yes_non_neg h, record { fits = simp ints (omega (arith, simp ints at f)) })
 
-cast-wide : tie.Need-overflow-cast-wide
-cast-wide c = let x = c.ranges.x in simp plain (widen x)
+overflow_cast-wide : tie.Need-overflow_cast-wide
+overflow_cast-wide c = let x = c.ranges.x in simp plain (widen x)
 
-sub-result : tie.Need-overflow-sub-result
-sub-result c = let x = c.before.ranges.x in simp plain (simp ints (omega (arith, simp ints at x)))
+overflow_sub-result : tie.Need-overflow_sub-result
+overflow_sub-result c = let x = c.before.ranges.x in simp plain (simp ints (omega (arith, simp ints at x)))
 
-cast-result : tie.Need-overflow-cast-result
-cast-result c =
+overflow_cast-result : tie.Need-overflow_cast-result
+overflow_cast-result c =
     let x = c.before.ranges.x in
-    let negated = simp plain at (sub-result c) in
-    let negative = simp plain at c.if1.true in
+    let negated = simp plain at (overflow_sub-result c) in
+    let negative = simp plain at c.if-wide-lt0.true in
     simp plain (own-size (pos 0 -ℤ c.before.args.x) (simp ints (omega (arith, parts))) negated)
 
-cast-result-2 : tie.Need-overflow-cast-result-2
-cast-result-2 c =
+overflow_cast-result-else-wide-lt0 : tie.Need-overflow_cast-result-else-wide-lt0
+overflow_cast-result-else-wide-lt0 c =
     let x = c.before.ranges.x in
-    let not_negative = simp plain at c.if1.false in
+    let not_negative = simp plain at c.if-wide-lt0.false in
     simp plain (own-size c.before.args.x (simp ints (omega (arith, parts))) (widen x))
 
-returns : tie.Need-returns
-returns c =
+returns-then-wide-lt0 : tie.Need-returns-then-wide-lt0
+returns-then-wide-lt0 c =
     let x = c.before.ranges.x in
-    let negated = simp plain at (sub-result c) in
+    let negated = simp plain at (overflow_sub-result c) in
     simp plain (simp ints (omega arith))
 
-returns-2 : tie.Need-returns-2
-returns-2 c = let x = c.before.ranges.x in simp plain
+returns-else-wide-lt0 : tie.Need-returns-else-wide-lt0
+returns-else-wide-lt0 c = let x = c.before.ranges.x in simp plain
 
-pub size-spec : {M : Type 1} → statement M
-size-spec = tie.close (tie.spec cast-wide sub-result cast-result cast-result-2 returns returns-2)
+pub size_spec : {M : Type 1} → statement M
+size_spec = tie.close (tie.spec overflow_cast-wide overflow_sub-result overflow_cast-result overflow_cast-result-else-wide-lt0 returns-then-wide-lt0 returns-else-wide-lt0)

@@ -6,20 +6,20 @@ use native.Mathlib.Omega.{arith}
 use Rattle.trellis.proofs.checks.word_count.Statement.{statement}
 use Rattle.trellis.proofs.checks.word_count.Tie as tie
 
-returns : tie.Need-returns
-returns c = rw c.match.keys1
+returns-in-0 : tie.Need-returns-in-0
+returns-in-0 c = rw c.in-0.is
 
-returns-2 : tie.Need-returns-2
-returns-2 c = rw c.match.keys2
+returns-in-1 : tie.Need-returns-in-1
+returns-in-1 c = rw c.in-1.is
 
-returns-3 : tie.Need-returns-3
-returns-3 c = rw c.match.keys3
+returns-in-2 : tie.Need-returns-in-2
+returns-in-2 c = rw c.in-2.is
 
-returns-4 : tie.Need-returns-4
-returns-4 c = rw c.match.keys4
+returns-in-3 : tie.Need-returns-in-3
+returns-in-3 c = rw c.in-3.is
 
-returns-5 : tie.Need-returns-5
-returns-5 c = let e : min c.before.args.outputs 4 ≡ 4 = omega (arith, c.match) in rw e
+returns-in_default : tie.Need-returns-in_default
+returns-in_default c = let e : min c.args.outputs 4 ≡ 4 = omega (arith, c.in_default.in_default-own) in rw e
 
-pub word-count-spec : {M : Type 1} → statement M
-word-count-spec = tie.close (tie.spec returns returns-2 returns-3 returns-4 returns-5)
+pub word_count_spec : {M : Type 1} → statement M
+word_count_spec = tie.close (tie.spec returns-in-0 returns-in-1 returns-in-2 returns-in-3 returns-in_default)

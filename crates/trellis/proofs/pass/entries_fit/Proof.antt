@@ -5,17 +5,17 @@ use borrow.Author.Tests.{eq-eqb, ne_eqb}
 use Rattle.trellis.proofs.pass.entries_fit.Statement.{statement}
 use Rattle.trellis.proofs.pass.entries_fit.Tie as tie
 
+returns-then-apriori-sections : tie.Need-returns-then-apriori-sections
+returns-then-apriori-sections c = simp (ne_eqb _ _ c.if-apriori-sections.true)
+
+returns-then-marks-sections : tie.Need-returns-then-marks-sections
+returns-then-marks-sections c = simp (ne_eqb _ _ c.if-marks-sections.true, and-false)
+
+returns-then-margins-sections : tie.Need-returns-then-margins-sections
+returns-then-margins-sections c = simp (ne_eqb _ _ c.if-margins-sections.true, and-false)
+
 returns : tie.Need-returns
-returns c = simp (ne_eqb _ _ c.if1.true)
+returns c = rw (eq-eqb _ _ c.before.before.if-apriori-sections.false, eq-eqb _ _ c.before.if-marks-sections.false, eq-eqb _ _ c.if-margins-sections.false)
 
-returns-2 : tie.Need-returns-2
-returns-2 c = simp (ne_eqb _ _ c.if2.true, and-false)
-
-returns-3 : tie.Need-returns-3
-returns-3 c = simp (ne_eqb _ _ c.if3.true, and-false)
-
-returns-4 : tie.Need-returns-4
-returns-4 c = rw (eq-eqb _ _ c.before.before.if1.false, eq-eqb _ _ c.before.if2.false, eq-eqb _ _ c.if3.false)
-
-pub entries-fit-spec : {M : Type 1} → statement M
-entries-fit-spec = tie.close (tie.spec returns returns-2 returns-3 returns-4)
+pub entries_fit_spec : {M : Type 1} → statement M
+entries_fit_spec = tie.close (tie.spec returns-then-apriori-sections returns-then-marks-sections returns-then-margins-sections returns)

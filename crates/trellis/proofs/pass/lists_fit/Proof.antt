@@ -15,12 +15,12 @@ use Rattle.trellis.proofs.pass.lists_fit.Statement.{statement}
 use Rattle.trellis.proofs.pass.lists_fit.Tie as tie
 
 -- the sizes are within their limits
-module _ (c : tie.Else1) where
+module _ (c : tie.Else-not-sizes_fit) where
   abbrev start : tie.Start
   start = c.before.before
 
   sizes : (leb start.args.format.states 16 && leb start.args.format.outputs 4 && sections_fit start.args.format.sections) ≡ true
-  sizes = sym c.before.sizes_fit_lem.ensures ∙ not-false _ c.if1.false
+  sizes = sym c.before.sizes_fit.ensures ∙ not-false _ c.if-not-sizes_fit.false-raw
 
   limits : (start.args.format.states ≤ 16) × (start.args.format.outputs ≤ 4) × (start.args.format.sections ≤ 4096)
   unfolding sections_fit
@@ -47,51 +47,51 @@ module _ (c : tie.Else1) where
   abbrev all : Bool
   all = ahead && each start.args.apriori && each start.args.marks && each start.args.margins && each start.args.extrinsics && last
 
-sizes-fit-requires : tie.Need-sizes-fit-requires
-sizes-fit-requires c κs = search rules
+sizes_fit-requires : tie.Need-sizes_fit-requires
+sizes_fit-requires c κs = search rules
 
-returns : tie.Need-returns
-returns c = rw (sym c.before.sizes_fit_lem.ensures ∙ not-true _ c.if1.true)
+returns-then-not-sizes_fit : tie.Need-returns-then-not-sizes_fit
+returns-then-not-sizes_fit c = rw (sym c.before.sizes_fit.ensures ∙ not-true _ c.if-not-sizes_fit.true-raw)
 
-mul-if2 : tie.Need-overflow-mul-if2
-mul-if2 c = let (states, outputs, sections) = limits c in omega (arith, mul-le-mul outputs sections)
+overflow_mul-outputs : tie.Need-overflow_mul-outputs
+overflow_mul-outputs c = let (states, outputs, sections) = limits c in omega (arith, mul-le-mul outputs sections)
 
-returns-2 : tie.Need-returns-2
-returns-2 c = simp (ne_eqb _ _ c.if2.true, and-false)
+returns-then-channel-outputs : tie.Need-returns-then-channel-outputs
+returns-then-channel-outputs c = simp (ne_eqb _ _ c.if-channel-outputs.true, and-false)
 
 -- four tests between others, one by one or as one
 four-as-one : (t a b c d : Bool) → (t && a && b && c && d) ≡ (t && (a && b && c && d))
 four-as-one true a b c d = refl
 four-as-one false a b c d = refl
 
-by-four : (c : tie.Else1) → all c ≡ (ahead c && four c && last c)
+by-four : (c : tie.Else-not-sizes_fit) → all c ≡ (ahead c && four c && last c)
 by-four c =
     let args = (start c).args in
     ap (λ t. t && last c) (four-as-one (ahead c) (each c args.apriori) (each c args.marks) (each c args.margins) (each c args.extrinsics))
 
-entries-fit-requires : tie.Need-entries-fit-requires
-entries-fit-requires c κs = search rules
+entries_fit-requires : tie.Need-entries_fit-requires
+entries_fit-requires c κs = search rules
 
-returns-3 : tie.Need-returns-3
-returns-3 c =
+returns-then-not-entries_fit : tie.Need-returns-then-not-entries_fit
+returns-then-not-entries_fit c =
     let sized = c.before.before.before in
-    let fail : four sized ≡ false = sym c.before.entries_fit.ensures ∙ not-true _ c.if3.true in
+    let fail : four sized ≡ false = sym c.before.entries_fit.ensures ∙ not-true _ c.if-not-entries_fit.true-raw in
     sym (by-four sized ∙ simp (fail, and-false))
 
 -- after every test but the last
-abbrev sized : tie.Else3 → tie.Else1
+abbrev sized : tie.Else-not-entries_fit → tie.Else-not-sizes_fit
 sized c = c.before.before.before
 
-add-result : tie.Need-overflow-add-result
-add-result c = omega (arith, (limits (sized c)).2)
+overflow_add-result : tie.Need-overflow_add-result
+overflow_add-result c = omega (arith, (limits (sized c)).2)
 
-mul-result : tie.Need-overflow-mul-result
-mul-result c = let (states, outputs, sections) = limits (sized c) in omega (arith, mul-le-mul sections states)
+overflow_mul-result : tie.Need-overflow_mul-result
+overflow_mul-result c = let (states, outputs, sections) = limits (sized c) in omega (arith, mul-le-mul sections states)
 
-returns-4 : tie.Need-returns-4
-returns-4 c =
-    let pass : four (sized c) ≡ true = sym c.before.entries_fit.ensures ∙ not-false _ c.if3.false in
-    sym (by-four (sized c) ∙ rw (sizes (sized c), eq-eqb _ _ c.before.before.if2.false, pass))
+returns : tie.Need-returns
+returns c =
+    let pass : four (sized c) ≡ true = sym c.before.entries_fit.ensures ∙ not-false _ c.if-not-entries_fit.false-raw in
+    sym (by-four (sized c) ∙ rw (sizes (sized c), eq-eqb _ _ c.before.before.if-channel-outputs.false, pass))
 
-pub lists-fit-spec : {M : Type 1} → statement M
-lists-fit-spec = tie.close (tie.spec sizes-fit-requires returns mul-if2 returns-2 entries-fit-requires returns-3 add-result mul-result returns-4)
+pub lists_fit_spec : {M : Type 1} → statement M
+lists_fit_spec = tie.close (tie.spec sizes_fit-requires returns-then-not-sizes_fit overflow_mul-outputs returns-then-channel-outputs entries_fit-requires returns-then-not-entries_fit overflow_add-result overflow_mul-result returns)

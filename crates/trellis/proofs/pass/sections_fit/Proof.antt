@@ -5,13 +5,13 @@ use Rattle.trellis.specs.Limits.{sections_fit}
 use Rattle.trellis.proofs.pass.sections_fit.Statement.{statement}
 use Rattle.trellis.proofs.pass.sections_fit.Tie as tie
 
+returns-then-sections-lt1 : tie.Need-returns-then-sections-lt1
+unfolding sections_fit
+returns-then-sections-lt1 c = rw (lt-leb _ _ c.if-sections-lt1.true)
+
 returns : tie.Need-returns
 unfolding sections_fit
-returns c = rw (lt-leb _ _ c.if1.true)
+returns c = rw (le-leb _ _ c.if-sections-lt1.false)
 
-returns-2 : tie.Need-returns-2
-unfolding sections_fit
-returns-2 c = rw (le-leb _ _ c.if1.false)
-
-pub sections-fit-spec : {M : Type 1} → statement M
-sections-fit-spec = tie.close (tie.spec returns returns-2)
+pub sections_fit_spec : {M : Type 1} → statement M
+sections_fit_spec = tie.close (tie.spec returns-then-sections-lt1 returns)

@@ -9,17 +9,17 @@ use Rattle.trellis.specs.Limits.{channel_check, apriori_check}
 use Rattle.trellis.proofs.pass.values_reply.Statement.{statement}
 use Rattle.trellis.proofs.pass.values_reply.Tie as tie
 
-channel-reply-requires : tie.Need-channel-reply-requires
-channel-reply-requires c κs = search rules
+channel_reply-first-requires : tie.Need-channel_reply-first-requires
+channel_reply-first-requires c κs = search rules
 
-apriori-reply-requires : tie.Need-apriori-reply-requires
-apriori-reply-requires c κs = search rules
+apriori_reply-second-requires : tie.Need-apriori_reply-second-requires
+apriori_reply-second-requires c κs = search rules
 
-first-of-requires : tie.Need-first-of-requires
-first-of-requires c κs = search rules
+first_of-requires : tie.Need-first_of-requires
+first_of-requires c κs = search rules
 
 returns : tie.Need-returns
-returns c = c.first_of_lem.ensures ∙ ap₂ ◌then◌ c.before.before.channel-reply.ensures c.before.apriori-reply.ensures ∙ sym (first_of_both (channel_check _ ∷ []) (apriori_check _ ∷ []))
+returns c = c.first_of.ensures ∙ ap₂ ◌then◌ c.before.before.channel_reply-first.ensures c.before.apriori_reply-second.ensures ∙ sym (first_of_both (channel_check _ ∷ []) (apriori_check _ ∷ []))
 
-pub values-reply-spec : {M : Type 1} → statement M
-values-reply-spec = tie.close (tie.spec channel-reply-requires apriori-reply-requires first-of-requires returns)
+pub values_reply_spec : {M : Type 1} → statement M
+values_reply_spec = tie.close (tie.spec channel_reply-first-requires apriori_reply-second-requires first_of-requires returns)

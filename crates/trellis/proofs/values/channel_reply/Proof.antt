@@ -6,19 +6,19 @@ use Rattle.trellis.specs.Limits.{channel_fits}
 use Rattle.trellis.proofs.values.channel_reply.Statement.{statement}
 use Rattle.trellis.proofs.values.channel_reply.Tie as tie
 
-all-inside-requires : tie.Need-all-inside-requires
-all-inside-requires c κs = search rules
+all_inside-requires : tie.Need-all_inside-requires
+all_inside-requires c κs = search rules
+
+returns-then-all_inside : tie.Need-returns-then-all_inside
+unfolding first_of check ◌then◌ channel_fits
+returns-then-all_inside c = rw (sym c.before.all_inside.ensures ∙ c.if-all_inside.true)
+
+first_outside-requires : tie.Need-first_outside-requires
+first_outside-requires c κs = search rules
 
 returns : tie.Need-returns
 unfolding first_of check ◌then◌ channel_fits
-returns c = rw (sym c.before.all-inside.ensures ∙ c.if1.true)
+returns c = rw (sym c.before.before.all_inside.ensures ∙ c.before.if-all_inside.false, c.first_outside.ensures)
 
-first-outside-requires : tie.Need-first-outside-requires
-first-outside-requires c κs = search rules
-
-returns-2 : tie.Need-returns-2
-unfolding first_of check ◌then◌ channel_fits
-returns-2 c = rw (sym c.before.before.all-inside.ensures ∙ c.before.if1.false, c.first-outside.ensures)
-
-pub channel-reply-spec : {M : Type 1} → statement M
-channel-reply-spec = tie.close (tie.spec all-inside-requires returns first-outside-requires returns-2)
+pub channel_reply_spec : {M : Type 1} → statement M
+channel_reply_spec = tie.close (tie.spec all_inside-requires returns-then-all_inside first_outside-requires returns)

@@ -14,58 +14,58 @@ use Rattle.trellis.specs.Limits.{first_outside}
 use Rattle.trellis.proofs.values.first_outside.Statement.{statement}
 use Rattle.trellis.proofs.values.first_outside.Tie as tie
 
-abbrev invariant-loop : tie.invariant-loop
+abbrev invariant-loop : tie.invariant-loop-i
 invariant-loop xs limit first₀ i₀ first i = (i ≤ length xs) × SoFar (inside limit) (pos 0) xs i first
 
-abbrev decreases-loop : tie.decreases-loop
+abbrev decreases-loop : tie.decreases-loop-i
 decreases-loop xs limit first₀ i₀ first i = length xs - i
 
-loop-holds : tie.Need-loop-init invariant-loop decreases-loop
-loop-holds c = (search rules, record { some_failed = λ h. absurd (omega arith); none_failed = λ h. refl })
+loop-i-init : tie.Need-loop-i-init invariant-loop decreases-loop
+loop-i-init c = (search rules, record { some_failed = λ h. absurd (omega arith); none_failed = λ h. refl })
 
-add-i : tie.Need-overflow-add-i invariant-loop decreases-loop
-add-i c = search rules
+overflow_add-i : tie.Need-overflow_add-i invariant-loop decreases-loop
+overflow_add-i c = search rules
 
-mul-inside : tie.Need-overflow-mul-inside invariant-loop decreases-loop
-mul-inside c = search rules
+offset_bounds-xs-here : tie.Need-offset_bounds-xs-here invariant-loop decreases-loop
+offset_bounds-xs-here c = search rules
 
-shared-slice-copy-out-inside : tie.Need-shared-slice-copy-out-inside invariant-loop decreases-loop
-shared-slice-copy-out-inside c = search rules
+bounds-xs-here : tie.Need-bounds-xs-here invariant-loop decreases-loop
+bounds-xs-here c = search rules
 
 inside-requires : tie.Need-inside-requires invariant-loop decreases-loop
 inside-requires c κs = search rules
 
-earlier-requires : tie.Need-earlier-requires invariant-loop decreases-loop
-earlier-requires c κs = search rules
+earlier-first-requires : tie.Need-earlier-first-requires invariant-loop decreases-loop
+earlier-first-requires c κs = search rules
 
-loop-less : tie.Need-loop-smaller invariant-loop decreases-loop
-loop-less c = search rules
+loop-i-smaller : tie.Need-loop-i-smaller invariant-loop decreases-loop
+loop-i-smaller c = search rules
 
-loop-again : tie.Need-loop-preserved invariant-loop decreases-loop
-loop-again c =
+loop-i-preserved : tie.Need-loop-i-preserved invariant-loop decreases-loop
+loop-i-preserved c =
     let turn = c.before.before.before in
     let at = turn.before in
-    let value : ℤ = get_or at.before.args.xs.now at.loop.i (pos 0) in
+    let value : ℤ = get_or at.before.args.xs.now at.loop-i.i (pos 0) in
     let fits : SFits w16 value = search rules in
     let tested : c.before.inside.result ≡ inside at.before.args.limit value = simp plain at c.before.inside.ensures in
-    (omega (arith, turn.loop-test.true), rw (c.earlier.ensures, tested) (so_far_more _ (pos 0) _ _ _ turn.loop-test.true at.loop.invariant.1))
+    (omega (arith, turn.loop-i-test.true), rw (c.earlier-first.ensures, tested) (so_far_more _ (pos 0) _ _ _ turn.loop-i-test.true at.loop-i.invariant.1))
 
 returns : tie.Need-returns invariant-loop decreases-loop
 unfolding first_outside
-returns c = so_far_all _ (pos 0) _ _ _ c.loop-test.false c.before.loop.invariant.1
+returns c = so_far_all _ (pos 0) _ _ _ c.loop-i-test.false c.before.loop-i.invariant.1
 
-pub first-outside-spec : {M : Type 1} → statement M
-first-outside-spec =
+pub first_outside_spec : {M : Type 1} → statement M
+first_outside_spec =
     tie.close
     (tie.spec
     invariant-loop
     decreases-loop
-    loop-holds
-    add-i
-    mul-inside
-    shared-slice-copy-out-inside
+    loop-i-init
+    overflow_add-i
+    offset_bounds-xs-here
+    bounds-xs-here
     inside-requires
-    earlier-requires
-    loop-less
-    loop-again
+    earlier-first-requires
+    loop-i-smaller
+    loop-i-preserved
     returns)
