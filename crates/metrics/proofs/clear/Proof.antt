@@ -11,10 +11,10 @@ use borrow.Author.Rules.{rules}
 use Rattle.metrics.proofs.clear.Statement.{statement}
 use Rattle.metrics.proofs.clear.Tie as tie
 
-abbrev invariant-loop : tie.invariant-loop
+abbrev invariant-loop : tie.invariant-loop-i
 invariant-loop work₀ i₀ work i = (i ≤ length work₀) × (length work ≡ length work₀) × (take i work ≡ replicate i (pos 0))
 
-abbrev decreases-loop : tie.decreases-loop
+abbrev decreases-loop : tie.decreases-loop-i
 decreases-loop work₀ i₀ work i = length work₀ - i
 
 cleared_more :
@@ -24,29 +24,29 @@ cleared_more xs i h e = rw (← replicate-append-replicate i 1 (pos 0), add-one,
 cleared-all : (xs : List ℤ) (i n : ℕ) → length xs ≡ n → i ≡ n → take i xs ≡ replicate i (pos 0) → xs ≡ replicate n (pos 0)
 cleared-all xs i n e f h = sym (take_all i xs (omega arith)) ∙ h ∙ rw f
 
-loop-holds : tie.Need-loop-init invariant-loop decreases-loop
-loop-holds c = (omega arith, refl, refl)
+loop-i-init : tie.Need-loop-i-init invariant-loop decreases-loop
+loop-i-init c = (omega arith, refl, refl)
 
-mul-work : tie.Need-overflow-mul-work invariant-loop decreases-loop
-mul-work c = search rules
+offset_bounds-work-i : tie.Need-offset_bounds-work-i invariant-loop decreases-loop
+offset_bounds-work-i c = search rules
 
-slice-set-of-work : tie.Need-slice-set-of-work invariant-loop decreases-loop
-slice-set-of-work c = search rules
+slice_set_of-work : tie.Need-slice_set_of-work invariant-loop decreases-loop
+slice_set_of-work c = search rules
 
-add-i : tie.Need-overflow-add-i invariant-loop decreases-loop
-add-i c = search rules
+overflow_add-i : tie.Need-overflow_add-i invariant-loop decreases-loop
+overflow_add-i c = search rules
 
-loop-less : tie.Need-loop-smaller invariant-loop decreases-loop
-loop-less c = search rules
+loop-i-smaller : tie.Need-loop-i-smaller invariant-loop decreases-loop
+loop-i-smaller c = search rules
 
-loop-again : tie.Need-loop-preserved invariant-loop decreases-loop
-loop-again c = let loop = c.before.loop in (omega arith, search rules, cleared_more _ _ c.loop-test.true loop.invariant.2)
+loop-i-preserved : tie.Need-loop-i-preserved invariant-loop decreases-loop
+loop-i-preserved c = let loop = c.before.loop-i in (omega arith, search rules, cleared_more _ _ c.loop-i-test.true loop.invariant.2)
 
-same_length : tie.Need-same-length invariant-loop decreases-loop
-same_length c = c.before.loop.invariant.1
+shape_of-work : tie.Need-shape_of-work invariant-loop decreases-loop
+shape_of-work c = c.before.loop-i.invariant.1
 
 returns : tie.Need-returns invariant-loop decreases-loop
-returns c = let loop = c.before.loop in cleared-all _ loop.i _ loop.invariant.1 (omega arith) loop.invariant.2
+returns c = let loop = c.before.loop-i in cleared-all _ loop.i _ loop.invariant.1 (omega arith) loop.invariant.2
 
 pub clear_spec : {M : Type 1} → statement M
 clear_spec =
@@ -54,11 +54,11 @@ clear_spec =
     (tie.spec
     invariant-loop
     decreases-loop
-    loop-holds
-    mul-work
-    slice-set-of-work
-    add-i
-    loop-less
-    loop-again
-    same_length
+    loop-i-init
+    offset_bounds-work-i
+    slice_set_of-work
+    overflow_add-i
+    loop-i-smaller
+    loop-i-preserved
+    shape_of-work
     returns)

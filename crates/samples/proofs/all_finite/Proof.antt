@@ -15,58 +15,58 @@ use Rattle.lists.specs.laws.Every.{every_take}
 use Rattle.samples.proofs.all_finite.Statement.{statement}
 use Rattle.samples.proofs.all_finite.Tie as tie
 
-abbrev invariant-loop : tie.invariant-loop
+abbrev invariant-loop : tie.invariant-loop-i
 invariant-loop samples all₀ i₀ all i = (i ≤ length samples) × (all ≡ every finite (take i samples))
 
-abbrev decreases-loop : tie.decreases-loop
+abbrev decreases-loop : tie.decreases-loop-i
 decreases-loop samples all₀ i₀ all i = length samples - i
 
-loop-holds : tie.Need-loop-init invariant-loop decreases-loop
+loop-i-init : tie.Need-loop-i-init invariant-loop decreases-loop
 unfolding every
-loop-holds c = (search rules, refl)
+loop-i-init c = (search rules, refl)
 
-mul-is-finite : tie.Need-overflow-mul-is-finite invariant-loop decreases-loop
-mul-is-finite c = search rules
+offset_bounds-samples-i : tie.Need-offset_bounds-samples-i invariant-loop decreases-loop
+offset_bounds-samples-i c = search rules
 
-shared-slice-read-is-finite : tie.Need-shared-slice-read-is-finite invariant-loop decreases-loop
-shared-slice-read-is-finite c = search rules
+bounds-samples-i : tie.Need-bounds-samples-i invariant-loop decreases-loop
+bounds-samples-i c = search rules
 
-is-finite-requires : tie.Need-is-finite-requires invariant-loop decreases-loop
-is-finite-requires c κs = search rules
+is_finite-requires : tie.Need-is_finite-requires invariant-loop decreases-loop
+is_finite-requires c κs = search rules
 
-both-requires : tie.Need-both-requires invariant-loop decreases-loop
-both-requires c κs = search rules
+both-all-requires : tie.Need-both-all-requires invariant-loop decreases-loop
+both-all-requires c κs = search rules
 
-add-i : tie.Need-overflow-add-i invariant-loop decreases-loop
-add-i c = search rules
+overflow_add-i : tie.Need-overflow_add-i invariant-loop decreases-loop
+overflow_add-i c = search rules
 
-loop-less : tie.Need-loop-smaller invariant-loop decreases-loop
-loop-less c = search rules
+loop-i-smaller : tie.Need-loop-i-smaller invariant-loop decreases-loop
+loop-i-smaller c = search rules
 
-loop-again : tie.Need-loop-preserved invariant-loop decreases-loop
-loop-again c =
+loop-i-preserved : tie.Need-loop-i-preserved invariant-loop decreases-loop
+loop-i-preserved c =
     let turn = c.before.before.before in
     let at = turn.before in
-    (omega (arith, turn.loop-test.true), c.both.ensures ∙ ap₂ ◌&&◌ at.loop.invariant.1 c.before.is_finite.ensures ∙ sym (every_take finite nan _ _ turn.loop-test.true))
+    (omega (arith, turn.loop-i-test.true), c.both-all.ensures ∙ ap₂ ◌&&◌ at.loop-i.invariant.1 c.before.is_finite.ensures ∙ sym (every_take finite nan _ _ turn.loop-i-test.true))
 
 returns : tie.Need-returns invariant-loop decreases-loop
 returns c =
     let samples : List Float = c.before.before.before.args.samples.now in
-    let end : length samples ≤ c.before.loop.i = omega (arith, c.loop-test.false) in
-    c.before.loop.invariant.1 ∙ ap (every finite) (take_all c.before.loop.i samples end)
+    let end : length samples ≤ c.before.loop-i.i = omega (arith, c.loop-i-test.false) in
+    c.before.loop-i.invariant.1 ∙ ap (every finite) (take_all c.before.loop-i.i samples end)
 
-pub all-finite-spec : {M : Type 1} → statement M
-all-finite-spec =
+pub all_finite_spec : {M : Type 1} → statement M
+all_finite_spec =
     tie.close
     (tie.spec
     invariant-loop
     decreases-loop
-    loop-holds
-    mul-is-finite
-    shared-slice-read-is-finite
-    is-finite-requires
-    both-requires
-    add-i
-    loop-less
-    loop-again
+    loop-i-init
+    offset_bounds-samples-i
+    bounds-samples-i
+    is_finite-requires
+    both-all-requires
+    overflow_add-i
+    loop-i-smaller
+    loop-i-preserved
     returns)

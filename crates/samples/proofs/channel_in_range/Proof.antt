@@ -7,52 +7,52 @@ use Rattle.samples.specs.Samples.{channel_in_range}
 use Rattle.samples.proofs.channel_in_range.Statement.{statement}
 use Rattle.samples.proofs.channel_in_range.Tie as tie
 
-enum-known-channel : tie.Need-enum-known-channel
-enum-known-channel c = search rules
+enum_known-channel : tie.Need-enum_known-channel
+enum_known-channel c = search rules
 
-in-range-requires : tie.Need-in-range-requires
-in-range-requires c κs = search rules
+in_range-requires : tie.Need-in_range-requires
+in_range-requires c κs = search rules
 
-enum-known-channel-2 : tie.Need-enum-known-channel-2
-enum-known-channel-2 c = search rules
+enum_known-channel-in-Fading-1 : tie.Need-enum_known-channel-in-Fading-1
+enum_known-channel-in-Fading-1 c = search rules
 
-in-range-requires-2 : tie.Need-in-range-requires-2
-in-range-requires-2 c κs = search rules
+in_range-requires-in-Fading : tie.Need-in_range-requires-in-Fading
+in_range-requires-in-Fading c κs = search rules
 
-in-range-requires-3 : tie.Need-in-range-requires-3
-in-range-requires-3 c κs = search rules
+in_range-requires-in-Fading-2 : tie.Need-in_range-requires-in-Fading-2
+in_range-requires-in-Fading-2 c κs = search rules
 
 both-requires : tie.Need-both-requires
 both-requires c κs = search rules
 
-enum_told : tie.Need-enum-told
-enum_told c = search rules
+enum_told-1 : tie.Need-enum_told-1
+enum_told-1 c = search rules
 
-returns : tie.Need-returns
+returns-in-Steady : tie.Need-returns-in-Steady
 unfolding channel_in_range
-returns c = rw c.before.before.channel.given.1 c.in-range.ensures
+returns-in-Steady c = rw c.in-Steady.is c.in_range.ensures
 
-returns-2 : tie.Need-returns-2
+returns-in-Fading : tie.Need-returns-in-Fading
 unfolding channel_in_range
-returns-2 c =
-    rw c.before.before.before.before.channel2.given.1
-    (c.both.ensures ∙ ap₂ ◌&&◌ c.before.before.in-range2.ensures c.before.in-range3.ensures)
+returns-in-Fading c =
+    rw c.in-Fading.is
+    (c.both.ensures ∙ ap₂ ◌&&◌ c.before.before.in_range-in-Fading.ensures c.before.in_range-in-Fading-2.ensures)
 
-returns-3 : tie.Need-returns-3
+returns-in-Silent : tie.Need-returns-in-Silent
 unfolding channel_in_range
-returns-3 c = rw c.enum_told.given.1
+returns-in-Silent c = rw c.in-Silent.is
 
-pub channel-in-range-spec : {M : Type 1} → statement M
-channel-in-range-spec =
+pub channel_in_range_spec : {M : Type 1} → statement M
+channel_in_range_spec =
     tie.close
     (tie.spec
-    enum-known-channel
-    in-range-requires
-    enum-known-channel-2
-    in-range-requires-2
-    in-range-requires-3
+    enum_known-channel
+    in_range-requires
+    enum_known-channel-in-Fading-1
+    in_range-requires-in-Fading
+    in_range-requires-in-Fading-2
     both-requires
-    enum_told
-    returns
-    returns-2
-    returns-3)
+    enum_told-1
+    returns-in-Steady
+    returns-in-Fading
+    returns-in-Silent)

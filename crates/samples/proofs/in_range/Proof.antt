@@ -4,11 +4,11 @@ use Rattle.samples.specs.laws.Settings.{zero_is, most_is, range_from_zero, range
 use Rattle.samples.proofs.in_range.Statement.{statement}
 use Rattle.samples.proofs.in_range.Tie as tie
 
+returns-then-x : tie.Need-returns-then-x
+returns-then-x c = rw most_is (range_from_zero _ (rw zero_is at c.if-x.true))
+
 returns : tie.Need-returns
-returns c = rw most_is (range_from_zero _ (rw zero_is at c.if1.true))
+returns c = range_below_zero _ (rw zero_is at c.if-x.false)
 
-returns-2 : tie.Need-returns-2
-returns-2 c = range_below_zero _ (rw zero_is at c.if1.false)
-
-pub in-range-spec : {M : Type 1} → statement M
-in-range-spec = tie.close (tie.spec returns returns-2)
+pub in_range_spec : {M : Type 1} → statement M
+in_range_spec = tie.close (tie.spec returns-then-x returns)

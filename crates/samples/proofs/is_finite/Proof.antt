@@ -7,5 +7,5 @@ use Rattle.samples.proofs.is_finite.Tie as tie
 returns : tie.Need-returns
 returns c = rw zero_is (less_itself c.args.x)
 
-pub is-finite-spec : {M : Type 1} → statement M
-is-finite-spec = tie.close (tie.spec returns)
+pub is_finite_spec : {M : Type 1} → statement M
+is_finite_spec = tie.close (tie.spec returns)

@@ -5,28 +5,28 @@ use Rattle.samples.specs.laws.Settings.{zero_is, four_is, factor}
 use Rattle.samples.proofs.reliability.Statement.{statement}
 use Rattle.samples.proofs.reliability.Tie as tie
 
-enum-known-channel : tie.Need-enum-known-channel
-enum-known-channel c = search rules
+enum_known-channel : tie.Need-enum_known-channel
+enum_known-channel c = search rules
 
-enum-known-channel-2 : tie.Need-enum-known-channel-2
-enum-known-channel-2 c = search rules
+enum_known-channel-in-Fading-1 : tie.Need-enum_known-channel-in-Fading-1
+enum_known-channel-in-Fading-1 c = search rules
 
-enum_told : tie.Need-enum-told
-enum_told c = search rules
+enum_told-1 : tie.Need-enum_told-1
+enum_told-1 c = search rules
 
-returns : tie.Need-returns
+returns-in-Steady : tie.Need-returns-in-Steady
 unfolding factor
-returns c = rw (four_is, c.before.channel.given.1)
+returns-in-Steady c = rw (four_is, c.in-Steady.is)
 
-returns-2 : tie.Need-returns-2
+returns-in-Fading : tie.Need-returns-in-Fading
 unfolding factor
-returns-2 c = rw (four_is, c.before.channel2.given.1)
+returns-in-Fading c = rw (four_is, c.in-Fading.is)
 
-returns-3 : tie.Need-returns-3
+returns-in-Silent : tie.Need-returns-in-Silent
 unfolding factor
-returns-3 c = rw (zero_is, c.enum_told.given.1)
+returns-in-Silent c = rw (zero_is, c.in-Silent.is)
 
-pub reliability-spec : {M : Type 1} → statement M
-reliability-spec =
+pub reliability_spec : {M : Type 1} → statement M
+reliability_spec =
     tie.close
-    (tie.spec enum-known-channel enum-known-channel-2 enum_told returns returns-2 returns-3)
+    (tie.spec enum_known-channel enum_known-channel-in-Fading-1 enum_told-1 returns-in-Steady returns-in-Fading returns-in-Silent)

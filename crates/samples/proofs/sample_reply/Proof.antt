@@ -7,26 +7,26 @@ use Rattle.samples.specs.Samples.{samples_fit, sample_checks}
 use Rattle.samples.proofs.sample_reply.Statement.{statement}
 use Rattle.samples.proofs.sample_reply.Tie as tie
 
-check-requires : tie.Need-check-requires
-check-requires c κs = search rules
+check-lists-requires : tie.Need-check-lists-requires
+check-lists-requires c κs = search rules
 
-setting-fits-requires : tie.Need-setting-fits-requires
-setting-fits-requires c κs = search rules
+setting_fits-requires : tie.Need-setting_fits-requires
+setting_fits-requires c κs = search rules
 
-check-requires-2 : tie.Need-check-requires-2
-check-requires-2 c κs = search rules
+check-numbers-requires : tie.Need-check-numbers-requires
+check-numbers-requires c κs = search rules
 
-all-finite-requires : tie.Need-all-finite-requires
-all-finite-requires c κs = search rules
+all_finite-requires : tie.Need-all_finite-requires
+all_finite-requires c κs = search rules
 
-check-requires-3 : tie.Need-check-requires-3
-check-requires-3 c κs = search rules
+check-finite-requires : tie.Need-check-finite-requires
+check-finite-requires c κs = search rules
 
-first-of-requires : tie.Need-first-of-requires
-first-of-requires c κs = search rules
+first_of-requires : tie.Need-first_of-requires
+first_of-requires c κs = search rules
 
-first-of-requires-2 : tie.Need-first-of-requires-2
-first-of-requires-2 c κs = search rules
+first_of-requires-2 : tie.Need-first_of-requires-2
+first_of-requires-2 c κs = search rules
 
 returns : tie.Need-returns
 unfolding sample_checks samples_fit first_of
@@ -35,25 +35,25 @@ returns c =
     let numbers = finite.before.before in
     let lists = numbers.before.before in
     rw (
-      c.first-of2.ensures,
-      c.before.first_of_lem.ensures,
-      finite.check3.ensures,
-      finite.before.all-finite.ensures,
-      numbers.check2.ensures,
-      numbers.before.setting-fits.ensures,
-      lists.check.ensures,
+      c.first_of-2.ensures,
+      c.before.first_of.ensures,
+      finite.check-finite.ensures,
+      finite.before.all_finite.ensures,
+      numbers.check-numbers.ensures,
+      numbers.before.setting_fits.ensures,
+      lists.check-lists.ensures,
     )
     (simp then_done)
 
-pub sample-reply-spec : {M : Type 1} → statement M
-sample-reply-spec =
+pub sample_reply_spec : {M : Type 1} → statement M
+sample_reply_spec =
     tie.close
     (tie.spec
-    check-requires
-    setting-fits-requires
-    check-requires-2
-    all-finite-requires
-    check-requires-3
-    first-of-requires
-    first-of-requires-2
+    check-lists-requires
+    setting_fits-requires
+    check-numbers-requires
+    all_finite-requires
+    check-finite-requires
+    first_of-requires
+    first_of-requires-2
     returns)

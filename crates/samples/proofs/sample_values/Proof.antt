@@ -10,28 +10,28 @@ use Rattle.samples.specs.laws.Calls.{refused, ready, done}
 use Rattle.samples.proofs.sample_values.Statement.{statement}
 use Rattle.samples.proofs.sample_values.Tie as tie
 
-abbrev start : tie.After-sample-reply → tie.Start
+abbrev start : tie.After-sample_reply-reply → tie.Start
 start c = c.before.before
 
 -- the checks pass
-passed : (c : tie.After-enum-told2) →
-    let args = (start c.before.before).args in
+passed : (c : tie.In_default) →
+    let args = (start c.before).args in
     first_of (sample_checks args.setting args.samples.now (length args.values.now)) ≡ Done
-passed c = sym c.before.before.sample-reply.ensures ∙ c.enum-told2.given.1
+passed c = sym c.sample_reply-reply.ensures ∙ c.in_default.is
 
-sample-reply-requires : tie.Need-sample-reply-requires
-sample-reply-requires c κs = search rules
+sample_reply-reply-requires : tie.Need-sample_reply-reply-requires
+sample_reply-reply-requires c κs = search rules
 
-enum_told : tie.Need-enum-told
-enum_told c = search rules
+enum_told-1 : tie.Need-enum_told-1
+enum_told-1 c = search rules
 
-returns : tie.Need-returns
-returns c =
-    let told = c.enum_told.given.1 in
-    rw told (refused _ _ _ _ (sym c.before.before.sample-reply.ensures ∙ told))
+returns-in-Refused : tie.Need-returns-in-Refused
+returns-in-Refused c =
+    let told = c.in-Refused.is in
+    rw told (refused _ _ _ _ (sym c.sample_reply-reply.ensures ∙ told))
 
-enum-told-2 : tie.Need-enum-told-2
-enum-told-2 c = search rules
+enum_told-in_default : tie.Need-enum_told-in_default
+enum_told-in_default c = search rules
 
 reliability-requires : tie.Need-reliability-requires
 reliability-requires c κs = search rules
@@ -39,23 +39,23 @@ reliability-requires c κs = search rules
 fill-requires : tie.Need-fill-requires
 fill-requires c κs = rw c.before.reliability.ensures (ready _ _ _ (passed c.before.before))
 
-same_length : tie.Need-same-length
-same_length c = search rules
+shape_of-values : tie.Need-shape_of-values
+shape_of-values c = search rules
 
-returns-2 : tie.Need-returns-2
-returns-2 c =
+returns : tie.Need-returns
+returns c =
     let factor = c.before.before.before in
     done _ _ _ (passed factor.before) (rw factor.reliability.ensures at c.before.fill.ensures)
 
-pub sample-values-spec : {M : Type 1} → statement M
-sample-values-spec =
+pub sample_values_spec : {M : Type 1} → statement M
+sample_values_spec =
     tie.close
     (tie.spec
-    sample-reply-requires
-    enum_told
-    returns
-    enum-told-2
+    sample_reply-reply-requires
+    enum_told-1
+    returns-in-Refused
+    enum_told-in_default
     reliability-requires
     fill-requires
-    same_length
-    returns-2)
+    shape_of-values
+    returns)

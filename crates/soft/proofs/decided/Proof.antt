@@ -8,11 +8,11 @@ use Rattle.soft.specs.laws.HandOver.{decided_below, decided_from}
 use Rattle.soft.proofs.decided.Statement.{statement}
 use Rattle.soft.proofs.decided.Tie as tie
 
-returns : tie.Need-returns
-returns c = sym (decided_below _ (simp ints (omega (arith, parts))))
+returns-then-margin-lt0 : tie.Need-returns-then-margin-lt0
+returns-then-margin-lt0 c = sym (decided_below _ (simp ints (omega (arith, parts))))
 
-returns-2 : tie.Need-returns-2
-returns-2 c = sym (decided_from _ (simp ints (omega (arith, parts))))
+returns-else-margin-lt0 : tie.Need-returns-else-margin-lt0
+returns-else-margin-lt0 c = sym (decided_from _ (simp ints (omega (arith, parts))))
 
-pub decided-spec : {M : Type 1} → statement M
-decided-spec = tie.close (tie.spec returns returns-2)
+pub decided_spec : {M : Type 1} → statement M
+decided_spec = tie.close (tie.spec returns-then-margin-lt0 returns-else-margin-lt0)

@@ -24,44 +24,44 @@ module _ {e : ℤ} (f : SFits w32 e) where
 
 ruleset read = (plain, wide, tripled, quartered)
 
-cast-wide : tie.Need-overflow-cast-wide
-cast-wide c = let e = c.ranges.e in simp read (wide e)
+overflow_cast-wide : tie.Need-overflow_cast-wide
+overflow_cast-wide c = let e = c.ranges.e in simp read (wide e)
 
-mul-scaled : tie.Need-overflow-mul-scaled
-mul-scaled c = let e = c.ranges.e in simp read (tripled e)
+overflow_mul-scaled : tie.Need-overflow_mul-scaled
+overflow_mul-scaled c = let e = c.ranges.e in simp read (tripled e)
 
-div-scaled : tie.Need-nonzero-div-scaled
-div-scaled c = let e = c.ranges.e in simp read (omega arith, quartered e)
+nonzero_div-scaled : tie.Need-nonzero_div-scaled
+nonzero_div-scaled c = let e = c.ranges.e in simp read (omega arith, quartered e)
+
+returns-then-scaled-ltminus8191 : tie.Need-returns-then-scaled-ltminus8191
+unfolding hand_over
+returns-then-scaled-ltminus8191 c =
+    let e = c.before.ranges.e in
+    let low = simp read at c.if-scaled-ltminus8191.true in
+    simp ints (omega (arith, simp ints at low))
+
+returns-then-scaled-gt8191 : tie.Need-returns-then-scaled-gt8191
+unfolding hand_over
+returns-then-scaled-gt8191 c =
+    let e = c.before.before.ranges.e in
+    let high = simp read at c.if-scaled-gt8191.true in
+    simp ints (omega (arith, simp ints at high))
+
+overflow_cast-result : tie.Need-overflow_cast-result
+overflow_cast-result c =
+    let e = c.before.before.ranges.e in
+    let not_low = simp read at c.before.if-scaled-ltminus8191.false in
+    let not-high = simp read at c.if-scaled-gt8191.false in
+    simp read (simp ints (omega (arith, simp ints at not_low, simp ints at not-high)))
 
 returns : tie.Need-returns
 unfolding hand_over
 returns c =
-    let e = c.before.ranges.e in
-    let low = simp read at c.if1.true in
-    simp ints (omega (arith, simp ints at low))
-
-returns-2 : tie.Need-returns-2
-unfolding hand_over
-returns-2 c =
     let e = c.before.before.ranges.e in
-    let high = simp read at c.if2.true in
-    simp ints (omega (arith, simp ints at high))
-
-cast-result : tie.Need-overflow-cast-result
-cast-result c =
-    let e = c.before.before.ranges.e in
-    let not_low = simp read at c.before.if1.false in
-    let not-high = simp read at c.if2.false in
+    let not_low = simp read at c.before.if-scaled-ltminus8191.false in
+    let not-high = simp read at c.if-scaled-gt8191.false in
+    let small = simp read at (overflow_cast-result c) in
     simp read (simp ints (omega (arith, simp ints at not_low, simp ints at not-high)))
 
-returns-3 : tie.Need-returns-3
-unfolding hand_over
-returns-3 c =
-    let e = c.before.before.ranges.e in
-    let not_low = simp read at c.before.if1.false in
-    let not-high = simp read at c.if2.false in
-    let small = simp read at (cast-result c) in
-    simp read (simp ints (omega (arith, simp ints at not_low, simp ints at not-high)))
-
-pub handed-spec : {M : Type 1} → statement M
-handed-spec = tie.close (tie.spec cast-wide mul-scaled div-scaled returns returns-2 cast-result returns-3)
+pub handed_spec : {M : Type 1} → statement M
+handed_spec = tie.close (tie.spec overflow_cast-wide overflow_mul-scaled nonzero_div-scaled returns-then-scaled-ltminus8191 returns-then-scaled-gt8191 overflow_cast-result returns)

@@ -4,11 +4,11 @@ use borrow.Author.Rules.{rules}
 use Rattle.frame.proofs.checks.larger.Statement.{statement}
 use Rattle.frame.proofs.checks.larger.Tie as tie
 
-returns : tie.Need-returns
-returns c = search rules
+returns-then-a-b : tie.Need-returns-then-a-b
+returns-then-a-b c = search rules
 
-returns-2 : tie.Need-returns-2
-returns-2 c = search rules
+returns-else-a-b : tie.Need-returns-else-a-b
+returns-else-a-b c = search rules
 
-pub larger-spec : {M : Type 1} → statement M
-larger-spec = tie.close (tie.spec returns returns-2)
+pub larger_spec : {M : Type 1} → statement M
+larger_spec = tie.close (tie.spec returns-then-a-b returns-else-a-b)

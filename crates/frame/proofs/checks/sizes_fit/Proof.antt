@@ -8,22 +8,22 @@ use borrow.Author.Tests.{le-leb, lt-leb}
 use Rattle.frame.proofs.checks.sizes_fit.Statement.{statement}
 use Rattle.frame.proofs.checks.sizes_fit.Tie as tie
 
-returns : tie.Need-returns
-returns c = rw (lt-leb 1 _ c.if1.true)
+returns-then-bits-lt1 : tie.Need-returns-then-bits-lt1
+returns-then-bits-lt1 c = rw (lt-leb 1 _ c.if-bits-lt1.true)
 
-returns-2 : tie.Need-returns-2
-returns-2 c = rw (lt-leb _ 4 c.if2.true, and-false)
+returns-then-tail-gt4 : tie.Need-returns-then-tail-gt4
+returns-then-tail-gt4 c = rw (lt-leb _ 4 c.if-tail-gt4.true, and-false)
 
-returns-3 : tie.Need-returns-3
-returns-3 c =
+returns-then-bits-gt4096 : tie.Need-returns-then-bits-gt4096
+returns-then-bits-gt4096 c =
     let a = c.before.before.before.args in
-    rw (lt-leb (a.bits + a.tail) 4096 (omega (arith, c.if3.true)), and-false)
+    rw (lt-leb (a.bits + a.tail) 4096 (omega (arith, c.if-bits-gt4096.true)), and-false)
 
-add-result : tie.Need-overflow-add-result
-add-result c = search rules
+overflow_add-result : tie.Need-overflow_add-result
+overflow_add-result c = search rules
 
-returns-4 : tie.Need-returns-4
-returns-4 c = rw (le-leb 1 _ c.before.before.if1.false, le-leb _ 4 c.before.if2.false)
+returns : tie.Need-returns
+returns c = rw (le-leb 1 _ c.before.before.if-bits-lt1.false, le-leb _ 4 c.before.if-tail-gt4.false)
 
-pub sizes-fit-spec : {M : Type 1} → statement M
-sizes-fit-spec = tie.close (tie.spec returns returns-2 returns-3 add-result returns-4)
+pub sizes_fit_spec : {M : Type 1} → statement M
+sizes_fit_spec = tie.close (tie.spec returns-then-bits-lt1 returns-then-tail-gt4 returns-then-bits-gt4096 overflow_add-result returns)

@@ -12,79 +12,79 @@ use Rattle.frame.specs.laws.Seen.{Seen, seen_none, seen_more, seen_too_large, se
 use Rattle.frame.proofs.interleaver.permutes.Statement.{statement}
 use Rattle.frame.proofs.interleaver.permutes.Tie as tie
 
-abbrev invariant-loop : tie.invariant-loop
+abbrev invariant-loop : tie.invariant-loop-i
 invariant-loop pattern seen₀ i₀ seen i = (i ≤ length pattern) × Seen pattern i seen
 
-abbrev decreases-loop : tie.decreases-loop
+abbrev decreases-loop : tie.decreases-loop-i
 decreases-loop pattern seen₀ i₀ seen i = length pattern - i
 
-few : (c : tie.Else1 invariant-loop decreases-loop) → leb (length c.before.args.pattern.now) 4096 ≡ true
-few c = le-leb _ _ c.if1.false
+few : (c : tie.Else-pattern-gt4096 invariant-loop decreases-loop) → leb (length c.before.args.pattern.now) 4096 ≡ true
+few c = le-leb _ _ c.if-pattern-gt4096.false
 
-returns : tie.Need-returns invariant-loop decreases-loop
-returns c = rw (lt-leb _ _ c.if1.true)
+returns-then-pattern-gt4096 : tie.Need-returns-then-pattern-gt4096 invariant-loop decreases-loop
+returns-then-pattern-gt4096 c = rw (lt-leb _ _ c.if-pattern-gt4096.true)
 
-loop-holds : tie.Need-loop-init invariant-loop decreases-loop
-loop-holds c = (search rules, seen_none _)
+loop-i-init : tie.Need-loop-i-init invariant-loop decreases-loop
+loop-i-init c = (search rules, seen_none _)
 
-mul-x : tie.Need-overflow-mul-x invariant-loop decreases-loop
-mul-x c = search rules
+offset_bounds-pattern-i : tie.Need-offset_bounds-pattern-i invariant-loop decreases-loop
+offset_bounds-pattern-i c = search rules
 
-shared-slice-read-x : tie.Need-shared-slice-read-x invariant-loop decreases-loop
-shared-slice-read-x c = search rules
+bounds-pattern-i : tie.Need-bounds-pattern-i invariant-loop decreases-loop
+bounds-pattern-i c = search rules
 
-cast-x : tie.Need-overflow-cast-x invariant-loop decreases-loop
-cast-x c = omega (arith, c.shared-slice-known.given c.before.before.loop.i)
+overflow_cast-x : tie.Need-overflow_cast-x invariant-loop decreases-loop
+overflow_cast-x c = omega (arith, c.shared_slice_known-1.given c.before.before.loop-i.i)
 
-returns-2 : tie.Need-returns-2 invariant-loop decreases-loop
-returns-2 c =
+returns-then-pattern-x : tie.Need-returns-then-pattern-x invariant-loop decreases-loop
+returns-then-pattern-x c =
     let short = few c.before.before.before.before in
-    rw short (sym (seen_too_large c.before.before.before.before.before.args.pattern.now c.before.before.before.loop.i c.before.before.loop-test.true c.if2.true))
+    rw short (sym (seen_too_large c.before.before.before.before.before.args.pattern.now c.before.before.before.loop-i.i c.before.before.loop-i-test.true c.if-pattern-x.true))
 
-array-read-had : tie.Need-array-read-had invariant-loop decreases-loop
-array-read-had c = omega (arith, c.if2.false, c.before.before.before.before.if1.false)
+bounds-seen-x : tie.Need-bounds-seen-x invariant-loop decreases-loop
+bounds-seen-x c = omega (arith, c.if-pattern-x.false, c.before.before.before.before.if-pattern-gt4096.false)
 
-returns-3 : tie.Need-returns-3 invariant-loop decreases-loop
-returns-3 c =
+returns-then-had : tie.Need-returns-then-had invariant-loop decreases-loop
+returns-then-had c =
     let short = few c.before.before.before.before.before in
-    rw short (sym (seen_twice c.before.before.before.loop-test.true c.if3.true c.before.before.before.before.loop.invariant.1))
+    rw short (sym (seen_twice c.before.before.before.loop-i-test.true c.if-had.true c.before.before.before.before.loop-i.invariant.1))
 
-array-write-seen : tie.Need-array-write-seen invariant-loop decreases-loop
-array-write-seen c = omega (arith, c.before.if2.false, c.before.before.before.before.before.if1.false)
+bounds-seen-x-in-loop-i : tie.Need-bounds-seen-x-in-loop-i invariant-loop decreases-loop
+bounds-seen-x-in-loop-i c = omega (arith, c.before.if-pattern-x.false, c.before.before.before.before.before.if-pattern-gt4096.false)
 
-add-i : tie.Need-overflow-add-i invariant-loop decreases-loop
-add-i c = search rules
+overflow_add-i : tie.Need-overflow_add-i invariant-loop decreases-loop
+overflow_add-i c = search rules
 
-loop-less : tie.Need-loop-smaller invariant-loop decreases-loop
-loop-less c = search rules
+loop-i-smaller : tie.Need-loop-i-smaller invariant-loop decreases-loop
+loop-i-smaller c = search rules
 
-loop-again : tie.Need-loop-preserved invariant-loop decreases-loop
-loop-again c = (
+loop-i-preserved : tie.Need-loop-i-preserved invariant-loop decreases-loop
+loop-i-preserved c = (
   omega arith,
-  seen_more c.before.before.before.before.before.if1.false c.before.if2.false c.if3.false c.before.before.before.before.loop.invariant.1,
+  seen_more c.before.before.before.before.before.if-pattern-gt4096.false c.before.if-pattern-x.false c.if-had.false c.before.before.before.before.loop-i.invariant.1,
 )
 
-returns-4 : tie.Need-returns-4 invariant-loop decreases-loop
-returns-4 c =
-    let e : c.before.loop.i ≡ length c.before.before.before.args.pattern.now = omega arith in
-    rw (few c.before.before) (sym (seen_all (rw e at c.before.loop.invariant.1)))
+returns : tie.Need-returns invariant-loop decreases-loop
+returns c =
+    let e : c.before.loop-i.i ≡ length c.before.before.before.args.pattern.now = omega arith in
+    rw (few c.before.before) (sym (seen_all (rw e at c.before.loop-i.invariant.1)))
 
-pub permutes-spec : {M : Type 1} → statement M
-permutes-spec =
+pub permutes_spec : {M : Type 1} → statement M
+permutes_spec =
     tie.close
     (tie.spec
     invariant-loop
     decreases-loop
-    returns
-    loop-holds
-    mul-x
-    shared-slice-read-x
-    cast-x
-    returns-2
-    array-read-had
-    returns-3
-    array-write-seen
-    add-i
-    loop-less
-    loop-again
-    returns-4)
+    returns-then-pattern-gt4096
+    loop-i-init
+    offset_bounds-pattern-i
+    bounds-pattern-i
+    overflow_cast-x
+    returns-then-pattern-x
+    bounds-seen-x
+    returns-then-had
+    bounds-seen-x-in-loop-i
+    overflow_add-i
+    loop-i-smaller
+    loop-i-preserved
+    returns)

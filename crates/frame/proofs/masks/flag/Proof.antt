@@ -6,17 +6,17 @@ use Rattle.frame.specs.Frame.{mask_flags}
 use Rattle.frame.proofs.masks.flag.Statement.{statement}
 use Rattle.frame.proofs.masks.flag.Tie as tie
 
-returns : tie.Need-returns
+returns-in-0 : tie.Need-returns-in-0
 unfolding mask_flags
-returns c = rw c.match.keys1
+returns-in-0 c = rw c.in-0.is
 
-returns-2 : tie.Need-returns-2
+returns-in-1 : tie.Need-returns-in-1
 unfolding mask_flags
-returns-2 c = rw c.match.keys2
+returns-in-1 c = rw c.in-1.is
 
-returns-3 : tie.Need-returns-3
+returns-in_default : tie.Need-returns-in_default
 unfolding mask_flags
-returns-3 c = let e : c.before.args.i ≡ 2 = omega (arith, c.match.rest) in rw e
+returns-in_default c = let e : c.args.i ≡ 2 = omega (arith, c.in_default.in_default-own.rest) in rw e
 
-pub flag-spec : {M : Type 1} → statement M
-flag-spec = tie.close (tie.spec returns returns-2 returns-3)
+pub flag_spec : {M : Type 1} → statement M
+flag_spec = tie.close (tie.spec returns-in-0 returns-in-1 returns-in_default)

@@ -6,11 +6,11 @@ use lib.Count.{ones-le}
 use Rattle.frame.proofs.masks.ones_of.Statement.{statement}
 use Rattle.frame.proofs.masks.ones_of.Tie as tie
 
-cast-result : tie.Need-overflow-cast-result
-cast-result c = omega (arith, ones-le 8 c.args.mask c.ranges.mask.fits)
+overflow_cast-result : tie.Need-overflow_cast-result
+overflow_cast-result c = omega (arith, ones-le 8 c.args.mask c.ranges.mask.fits)
 
 returns : tie.Need-returns
 returns c = (refl, ones-le 8 c.args.mask c.ranges.mask.fits)
 
-pub ones-of-spec : {M : Type 1} → statement M
-ones-of-spec = tie.close (tie.spec cast-result returns)
+pub ones_of_spec : {M : Type 1} → statement M
+ones_of_spec = tie.close (tie.spec overflow_cast-result returns)

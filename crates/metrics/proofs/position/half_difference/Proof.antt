@@ -24,45 +24,45 @@ inside-fitting : (y x : ℤ) → inside best_limit y ≡ true → inside best_li
 inside-fitting y x = simp ints (omega arith)
 
 -- what the tests tell
-zero-told : (c : tie.After-is-best) → c.is-best.result ≡ inside best_limit c.before.args.zero
-zero-told c = let fits = c.before.ranges.zero in simp plain at c.is-best.ensures
+zero-told : (c : tie.After-is_best) → c.is_best.result ≡ inside best_limit c.before.args.zero
+zero-told c = let fits = c.before.ranges.zero in simp plain at c.is_best.ensures
 
-one_told : (c : tie.After-is-best2) → c.is-best2.result ≡ inside best_limit c.before.before.before.args.one
-one_told c = let fits = c.before.before.before.ranges.one in simp plain at c.is-best2.ensures
+one_told : (c : tie.After-is_best-2) → c.is_best-2.result ≡ inside best_limit c.before.before.before.args.one
+one_told c = let fits = c.before.before.before.ranges.one in simp plain at c.is_best-2.ensures
 
-zero-inside : (c : tie.Else1) → inside best_limit c.before.before.args.zero ≡ true
-zero-inside c = sym (zero-told c.before) ∙ not-false _ c.if1.false
+zero-inside : (c : tie.Else-not-is_best) → inside best_limit c.before.before.args.zero ≡ true
+zero-inside c = sym (zero-told c.before) ∙ not-false _ c.if-not-is_best.false-raw
 
-one_inside : (c : tie.Else2) → inside best_limit c.before.before.before.before.args.one ≡ true
-one_inside c = sym (one_told c.before) ∙ not-false _ c.if2.false
+one_inside : (c : tie.Else-not-is_best-2) → inside best_limit c.before.before.before.before.args.one ≡ true
+one_inside c = sym (one_told c.before) ∙ not-false _ c.if-not-is_best-2.false-raw
 
-fitting : (c : tie.Else2) → let args = c.before.before.before.before.args in Fitting args.one args.zero
+fitting : (c : tie.Else-not-is_best-2) → let args = c.before.before.before.before.args in Fitting args.one args.zero
 fitting c = inside-fitting _ _ (one_inside c) (zero-inside c.before.before)
 
-is-best-requires : tie.Need-is-best-requires
-is-best-requires c κs = search rules
+is_best-requires : tie.Need-is_best-requires
+is_best-requires c κs = search rules
+
+returns-then-not-is_best : tie.Need-returns-then-not-is_best
+returns-then-not-is_best c = rw (sym (zero-told c.before) ∙ not-true _ c.if-not-is_best.true-raw) refl
+
+is_best-requires-2 : tie.Need-is_best-requires-2
+is_best-requires-2 c κs = search rules
+
+returns-then-not-is_best-2 : tie.Need-returns-then-not-is_best-2
+returns-then-not-is_best-2 c = rw (sym (one_told c.before) ∙ not-true _ c.if-not-is_best-2.true-raw, and-false) refl
+
+overflow_sub-result : tie.Need-overflow_sub-result
+overflow_sub-result c = let (y, x, difference, half) = fitting c in simp plain difference
+
+nonzero_div-result : tie.Need-nonzero_div-result
+nonzero_div-result c = let (y, x, difference, half) = fitting c in (lit< tt, simp plain half)
 
 returns : tie.Need-returns
-returns c = rw (sym (zero-told c.before) ∙ not-true _ c.if1.true) refl
-
-is-best-requires-2 : tie.Need-is-best-requires-2
-is-best-requires-2 c κs = search rules
-
-returns-2 : tie.Need-returns-2
-returns-2 c = rw (sym (one_told c.before) ∙ not-true _ c.if2.true, and-false) refl
-
-sub-result : tie.Need-overflow-sub-result
-sub-result c = let (y, x, difference, half) = fitting c in simp plain difference
-
-div-result : tie.Need-nonzero-div-result
-div-result c = let (y, x, difference, half) = fitting c in (lit< tt, simp plain half)
-
-returns-3 : tie.Need-returns-3
 unfolding half
-returns-3 c =
+returns c =
     let (y, x, difference, half) = fitting c in
     rw (zero-inside c.before.before, one_inside c) (simp plain)
 
-pub half-difference-spec : {M : Type 1} → statement M
-half-difference-spec =
-    tie.close (tie.spec is-best-requires returns is-best-requires-2 returns-2 sub-result div-result returns-3)
+pub half_difference_spec : {M : Type 1} → statement M
+half_difference_spec =
+    tie.close (tie.spec is_best-requires returns-then-not-is_best is_best-requires-2 returns-then-not-is_best-2 overflow_sub-result nonzero_div-result returns)

@@ -27,11 +27,11 @@ not-below z low = go (le_z z (pos 100000000)) refl
     go true e = sym (in_both low e)
     go false e = sym (above e)
 
+returns-then-x-ltminus100000000 : tie.Need-returns-then-x-ltminus100000000
+returns-then-x-ltminus100000000 c = let x = c.before.ranges.x in sym (below _ (simp plain at c.if-x-ltminus100000000.true))
+
 returns : tie.Need-returns
-returns c = let x = c.before.ranges.x in sym (below _ (simp plain at c.if1.true))
+returns c = let x = c.before.ranges.x in simp plain (not-below _ (simp plain at c.if-x-ltminus100000000.false))
 
-returns-2 : tie.Need-returns-2
-returns-2 c = let x = c.before.ranges.x in simp plain (not-below _ (simp plain at c.if1.false))
-
-pub is-best-spec : {M : Type 1} → statement M
-is-best-spec = tie.close (tie.spec returns returns-2)
+pub is_best_spec : {M : Type 1} → statement M
+is_best_spec = tie.close (tie.spec returns-then-x-ltminus100000000 returns)

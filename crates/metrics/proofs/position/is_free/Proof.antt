@@ -15,16 +15,16 @@ zero-told c = let fits = c.before.ranges.zero in simp plain at c.reached.ensures
 reached-requires : tie.Need-reached-requires
 reached-requires c κs = search rules
 
-reached-requires-2 : tie.Need-reached-requires-2
-reached-requires-2 c κs = search rules
+reached-requires-then-reached : tie.Need-reached-requires-then-reached
+reached-requires-then-reached c κs = search rules
 
-returns : tie.Need-returns
-returns c =
+returns-then-reached : tie.Need-returns-then-reached
+returns-then-reached c =
     let fits = c.before.before.before.ranges.one in
-    rw (sym (zero-told c.before.before) ∙ c.before.if1.true) (simp plain at c.reached2.ensures)
+    rw (sym (zero-told c.before.before) ∙ c.before.if-reached.true) (simp plain at c.reached-then-reached.ensures)
 
-returns-2 : tie.Need-returns-2
-returns-2 c = rw (sym (zero-told c.before) ∙ c.if1.false)
+returns-else-reached : tie.Need-returns-else-reached
+returns-else-reached c = rw (sym (zero-told c.before) ∙ c.if-reached.false)
 
-pub is-free-spec : {M : Type 1} → statement M
-is-free-spec = tie.close (tie.spec reached-requires reached-requires-2 returns returns-2)
+pub is_free_spec : {M : Type 1} → statement M
+is_free_spec = tie.close (tie.spec reached-requires reached-requires-then-reached returns-then-reached returns-else-reached)

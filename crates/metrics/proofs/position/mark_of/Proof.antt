@@ -12,17 +12,17 @@ use Rattle.metrics.proofs.position.mark_of.Tie as tie
 one_told : (c : tie.After-reached) → c.reached.result ≡ found (held c.before.before.args.one)
 one_told c = let fits = c.before.before.ranges.one in simp plain at c.reached.ensures
 
-returns : tie.Need-returns
-returns c = search rules
+returns-then-free : tie.Need-returns-then-free
+returns-then-free c = search rules
 
 reached-requires : tie.Need-reached-requires
 reached-requires c κs = search rules
 
-returns-2 : tie.Need-returns-2
-returns-2 c = rw (c.before.before.if1.false, sym (one_told c.before) ∙ c.if2.true)
+returns-then-reached : tie.Need-returns-then-reached
+returns-then-reached c = rw (c.before.before.if-free.false, sym (one_told c.before) ∙ c.if-reached.true)
 
-returns-3 : tie.Need-returns-3
-returns-3 c = rw (c.before.before.if1.false, sym (one_told c.before) ∙ c.if2.false)
+returns-else-reached : tie.Need-returns-else-reached
+returns-else-reached c = rw (c.before.before.if-free.false, sym (one_told c.before) ∙ c.if-reached.false)
 
-pub mark-of-spec : {M : Type 1} → statement M
-mark-of-spec = tie.close (tie.spec returns reached-requires returns-2 returns-3)
+pub mark_of_spec : {M : Type 1} → statement M
+mark_of_spec = tie.close (tie.spec returns-then-free reached-requires returns-then-reached returns-else-reached)

@@ -11,14 +11,14 @@ use Rattle.metrics.proofs.position.own_of.Tie as tie
 sum_fits : (a y : ℤ) → SFits w16 a → SFits w16 y → SFits w32 (a +ℤ y)
 sum_fits a y = simp ints (omega arith)
 
-cast-result : tie.Need-overflow-cast-result
-cast-result c = let a = c.ranges.a in simp plain (widen a)
+overflow_cast-result : tie.Need-overflow_cast-result
+overflow_cast-result c = let a = c.ranges.a in simp plain (widen a)
 
-cast-result-2 : tie.Need-overflow-cast-result-2
-cast-result-2 c = let y = c.ranges.y in simp plain (widen y)
+overflow_cast-result-2 : tie.Need-overflow_cast-result-2
+overflow_cast-result-2 c = let y = c.ranges.y in simp plain (widen y)
 
-add-result : tie.Need-overflow-add-result
-add-result c =
+overflow_add-result : tie.Need-overflow_add-result
+overflow_add-result c =
     let a = c.ranges.a in
     let y = c.ranges.y in
     simp plain (sum_fits _ _ a y)
@@ -27,8 +27,8 @@ returns : tie.Need-returns
 returns c =
     let a = c.ranges.a in
     let y = c.ranges.y in
-    let sum = simp plain at (add-result c) in
+    let sum = simp plain at (overflow_add-result c) in
     simp plain
 
-pub own-of-spec : {M : Type 1} → statement M
-own-of-spec = tie.close (tie.spec cast-result cast-result-2 add-result returns)
+pub own_of_spec : {M : Type 1} → statement M
+own_of_spec = tie.close (tie.spec overflow_cast-result overflow_cast-result-2 overflow_add-result returns)

@@ -31,71 +31,71 @@ found-zero f = rw (over_zero f)
 found-more : (n : ℕ) (f : ℕ → Option ℤ) → found (over (n + 1) f) ≡ (found (over n f) || found (f n))
 found-more n f = rw add-one (ap found (over_suc n f) ∙ found_larger (over n f) (f n))
 
-abbrev invariant-loop : tie.invariant-loop
+abbrev invariant-loop : tie.invariant-loop-s
 invariant-loop states m last count any₀ s₀ any s = (s ≤ count) × (any ≡ found (over s (λ r. plus (row m r) (row last r))))
 
-abbrev decreases-loop : tie.decreases-loop
+abbrev decreases-loop : tie.decreases-loop-s
 decreases-loop states m last count any₀ s₀ any s = count - s
 
-at-most-sixteen-requires : tie.Need-at-most-sixteen-requires invariant-loop decreases-loop
-at-most-sixteen-requires c κs = search rules
+at_most_sixteen-count-requires : tie.Need-at_most_sixteen-count-requires invariant-loop decreases-loop
+at_most_sixteen-count-requires c κs = search rules
 
-loop-holds : tie.Need-loop-init invariant-loop decreases-loop
-loop-holds c = (omega arith, found-zero _)
+loop-s-init : tie.Need-loop-s-init invariant-loop decreases-loop
+loop-s-init c = (omega arith, found-zero _)
 
-mul-x : tie.Need-overflow-mul-x invariant-loop decreases-loop
-mul-x c = search rules
+offset_bounds-m-s : tie.Need-offset_bounds-m-s invariant-loop decreases-loop
+offset_bounds-m-s c = search rules
 
-array-copy-out-x : tie.Need-array-copy-out-x invariant-loop decreases-loop
-array-copy-out-x c = search rules
+bounds-m-s : tie.Need-bounds-m-s invariant-loop decreases-loop
+bounds-m-s c = search rules
 
-mul-y : tie.Need-overflow-mul-y invariant-loop decreases-loop
-mul-y c = search rules
+offset_bounds-last-s : tie.Need-offset_bounds-last-s invariant-loop decreases-loop
+offset_bounds-last-s c = search rules
 
-array-copy-out-y : tie.Need-array-copy-out-y invariant-loop decreases-loop
-array-copy-out-y c = search rules
+bounds-last-s : tie.Need-bounds-last-s invariant-loop decreases-loop
+bounds-last-s c = search rules
 
-both-reached-requires : tie.Need-both-reached-requires invariant-loop decreases-loop
-both-reached-requires c κs = search rules
+both_reached-here-requires : tie.Need-both_reached-here-requires invariant-loop decreases-loop
+both_reached-here-requires c κs = search rules
 
-either-requires : tie.Need-either-requires invariant-loop decreases-loop
-either-requires c κs = search rules
+either-any-requires : tie.Need-either-any-requires invariant-loop decreases-loop
+either-any-requires c κs = search rules
 
-add-s : tie.Need-overflow-add-s invariant-loop decreases-loop
-add-s c = search rules
+overflow_add-s : tie.Need-overflow_add-s invariant-loop decreases-loop
+overflow_add-s c = search rules
 
-loop-less : tie.Need-loop-smaller invariant-loop decreases-loop
-loop-less c = search rules
+loop-s-smaller : tie.Need-loop-s-smaller invariant-loop decreases-loop
+loop-s-smaller c = search rules
 
-loop-again : tie.Need-loop-preserved invariant-loop decreases-loop
-loop-again c =
+loop-s-preserved : tie.Need-loop-s-preserved invariant-loop decreases-loop
+loop-s-preserved c =
     let both = c.before in
     let read = both.before in
     let at = read.before.before.before in
-    let here = rw (to_z-of_z (fits_of read.before.x.given), to_z-of_z (fits_of read.y.given)) at both.both-reached.ensures in
-    (omega arith, c.either.ensures ∙ ap₂ ◌||◌ at.loop.invariant.1 here ∙ sym (found-more at.loop.s _))
+    let here = rw (to_z-of_z (fits_of read.before.x-1.given), to_z-of_z (fits_of read.y-1.given)) at both.both_reached-here.ensures in
+    (omega arith, c.either-any.ensures ∙ ap₂ ◌||◌ at.loop-s.invariant.1 here ∙ sym (found-more at.loop-s.s _))
 
 returns : tie.Need-returns invariant-loop decreases-loop
 returns c =
     let at = c.before in
-    let e : at.loop.s ≡ at.before.at-most-sixteen.result = omega (arith, c.loop-test.false) in
-    rw (e, at.before.at-most-sixteen.ensures) at at.loop.invariant.1
+    let e : at.loop-s.s ≡ at.before.at_most_sixteen-count.result = omega (arith, c.loop-s-test.false) in
+    rw (e, at.before.at_most_sixteen-count.ensures) at at.loop-s.invariant.1
 
-pub arrived-spec : {M : Type 1} → statement M
-arrived-spec =
+pub arrived_spec : {M : Type 1} → statement M
+arrived_spec =
     tie.close
     (tie.spec
     invariant-loop
     decreases-loop
-    at-most-sixteen-requires
-    loop-holds
-    mul-x
-    array-copy-out-x
-    mul-y
-    array-copy-out-y
-    both-reached-requires
-    either-requires
-    add-s
-    loop-less
-    loop-again
+    at_most_sixteen-count-requires
+    loop-s-init
+    offset_bounds-m-s
+    bounds-m-s
+    offset_bounds-last-s
+    bounds-last-s
+    both_reached-here-requires
+    either-any-requires
+    overflow_add-s
+    loop-s-smaller
+    loop-s-preserved
     returns)

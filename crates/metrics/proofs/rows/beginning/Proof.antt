@@ -7,14 +7,14 @@ use Rattle.metrics.proofs.rows.beginning.Tie as tie
 boundary-requires : tie.Need-boundary-requires
 boundary-requires c κs = search rules
 
-boundary-requires-2 : tie.Need-boundary-requires-2
-boundary-requires-2 c κs = search rules
+boundary-requires-else-start-eq0 : tie.Need-boundary-requires-else-start-eq0
+boundary-requires-else-start-eq0 c κs = search rules
 
-returns : tie.Need-returns
-returns c s l = rw c.before.if1.true (c.boundary.ensures s l)
+returns-then-start-eq0 : tie.Need-returns-then-start-eq0
+returns-then-start-eq0 c s l = rw c.before.if-start-eq0.true (c.boundary.ensures s l)
 
-returns-2 : tie.Need-returns-2
-returns-2 c s l = c.boundary2.ensures s l
+returns-else-start-eq0 : tie.Need-returns-else-start-eq0
+returns-else-start-eq0 c s l = c.boundary-else-start-eq0.ensures s l
 
-pub beginning-spec : {M : Type 1} → statement M
-beginning-spec = tie.close (tie.spec boundary-requires boundary-requires-2 returns returns-2)
+pub beginning_spec : {M : Type 1} → statement M
+beginning_spec = tie.close (tie.spec boundary-requires boundary-requires-else-start-eq0 returns-then-start-eq0 returns-else-start-eq0)

@@ -27,17 +27,17 @@ no_row : (n a s : ℕ) → n ≤ a → s < n → row (replicate n nothing) s ≡
 unfolding boundary
 no_row n a s h l = rw (ne_eqb s a (λ e. omega arith)) (unreached n s l)
 
-mul-m : tie.Need-overflow-mul-m
-mul-m c = search rules
+offset_bounds-m-start : tie.Need-offset_bounds-m-start
+offset_bounds-m-start c = search rules
 
-array-set-of-m : tie.Need-array-set-of-m
-array-set-of-m c = search rules
+array_set_of-m : tie.Need-array_set_of-m
+array_set_of-m c = search rules
 
-returns : tie.Need-returns
-returns c s l = boundary-row 16 _ s c.if1.true l
+returns-then-start-lt16 : tie.Need-returns-then-start-lt16
+returns-then-start-lt16 c s l = boundary-row 16 _ s c.if-start-lt16.true l
 
-returns-2 : tie.Need-returns-2
-returns-2 c s l = no_row 16 _ s c.if1.false l
+returns-else-start-lt16 : tie.Need-returns-else-start-lt16
+returns-else-start-lt16 c s l = no_row 16 _ s c.if-start-lt16.false l
 
-pub boundary-spec : {M : Type 1} → statement M
-boundary-spec = tie.close (tie.spec mul-m array-set-of-m returns returns-2)
+pub boundary_spec : {M : Type 1} → statement M
+boundary_spec = tie.close (tie.spec offset_bounds-m-start array_set_of-m returns-then-start-lt16 returns-else-start-lt16)

@@ -47,56 +47,56 @@ no_row Ring a s h l = rw (ne_eqb s a (λ e. omega arith)) (unreached 16 s l)
 starts-requires : tie.Need-starts-requires
 starts-requires c κs = search rules
 
-returns : tie.Need-returns
-returns c s l = no_row _ _ s (rw c.before.starts.ensures at c.if1.true) l
+returns-then-starts-start : tie.Need-returns-then-starts-start
+returns-then-starts-start c s l = no_row _ _ s (rw c.before.starts.ensures at c.if-starts-start.true) l
 
 -- the start is one that the end lets paths have
-is-start : (c : tie.Else1) → let args = c.before.before.args in args.start < starts 16 args.end
-is-start c = rw c.before.starts.ensures at c.if1.false
+is-start : (c : tie.Else-starts-start) → let args = c.before.before.args in args.start < starts 16 args.end
+is-start c = rw c.before.starts.ensures at c.if-starts-start.false
 
-enum_told : tie.Need-enum-told
-enum_told c = search rules
+enum_told-1 : tie.Need-enum_told-1
+enum_told-1 c = search rules
 
 finishing-requires : tie.Need-finishing-requires
 finishing-requires c κs = search rules
 
-enum-told-2 : tie.Need-enum-told-2
-enum-told-2 c = search rules
+enum_told-in-Open : tie.Need-enum_told-in-Open
+enum_told-in-Open c = search rules
 
-finishing-requires-2 : tie.Need-finishing-requires-2
-finishing-requires-2 c κs = search rules
+finishing-requires-in-Open : tie.Need-finishing-requires-in-Open
+finishing-requires-in-Open c κs = search rules
 
-enum-told-3 : tie.Need-enum-told-3
-enum-told-3 c = search rules
+enum_told-in-Ring : tie.Need-enum_told-in-Ring
+enum_told-in-Ring c = search rules
 
-finishing-requires-3 : tie.Need-finishing-requires-3
-finishing-requires-3 c κs = search rules
+finishing-requires-in-Ring : tie.Need-finishing-requires-in-Ring
+finishing-requires-in-Ring c κs = search rules
 
-returns-2 : tie.Need-returns-2
-returns-2 c s l =
-    let told = c.before.enum_told.given.1 in
-    rw told (c.finishing.ensures s l ∙ zero_row _ s (rw told at (is-start c.before.before.before)))
+returns-in-Zero : tie.Need-returns-in-Zero
+returns-in-Zero c s l =
+    let told = c.in-Zero.is in
+    rw told (c.finishing.ensures s l ∙ zero_row _ s (rw told at (is-start c.before.before)))
 
-returns-3 : tie.Need-returns-3
-returns-3 c s l =
-    let told = c.before.enum-told2.given.1 in
-    rw told (c.finishing2.ensures s l ∙ open_row _ s (rw told at (is-start c.before.before.before)))
+returns-in-Open : tie.Need-returns-in-Open
+returns-in-Open c s l =
+    let told = c.in-Open.is in
+    rw told (c.finishing-in-Open.ensures s l ∙ open_row _ s (rw told at (is-start c.before.before)))
 
-returns-4 : tie.Need-returns-4
-returns-4 c s l = let told = c.before.enum-told3.given.1 in rw told (c.finishing3.ensures s l ∙ ring-row _ s)
+returns-in-Ring : tie.Need-returns-in-Ring
+returns-in-Ring c s l = let told = c.in-Ring.is in rw told (c.finishing-in-Ring.ensures s l ∙ ring-row _ s)
 
-pub ending-spec : {M : Type 1} → statement M
-ending-spec =
+pub ending_spec : {M : Type 1} → statement M
+ending_spec =
     tie.close
     (tie.spec
     starts-requires
-    returns
-    enum_told
+    returns-then-starts-start
+    enum_told-1
     finishing-requires
-    enum-told-2
-    finishing-requires-2
-    enum-told-3
-    finishing-requires-3
-    returns-2
-    returns-3
-    returns-4)
+    enum_told-in-Open
+    finishing-requires-in-Open
+    enum_told-in-Ring
+    finishing-requires-in-Ring
+    returns-in-Zero
+    returns-in-Open
+    returns-in-Ring)

@@ -19,11 +19,11 @@ zeros-row (suc n) (suc s) h = zeros-row n s (omega arith)
 boundary-requires : tie.Need-boundary-requires
 boundary-requires c κs = search rules
 
-returns : tie.Need-returns
-returns c s l = rw c.if1.true (zeros-row 16 s l)
+returns-then-anywhere : tie.Need-returns-then-anywhere
+returns-then-anywhere c s l = rw c.if-anywhere.true (zeros-row 16 s l)
 
-returns-2 : tie.Need-returns-2
-returns-2 c s l = rw c.before.if1.false (c.boundary.ensures s l)
+returns-else-anywhere : tie.Need-returns-else-anywhere
+returns-else-anywhere c s l = rw c.before.if-anywhere.false (c.boundary.ensures s l)
 
-pub finishing-spec : {M : Type 1} → statement M
-finishing-spec = tie.close (tie.spec boundary-requires returns returns-2)
+pub finishing_spec : {M : Type 1} → statement M
+finishing_spec = tie.close (tie.spec boundary-requires returns-then-anywhere returns-else-anywhere)

@@ -5,26 +5,26 @@ use Rattle.trellis.specs.laws.Sweeps.{starts}
 use Rattle.metrics.proofs.rows.starts.Statement.{statement}
 use Rattle.metrics.proofs.rows.starts.Tie as tie
 
-enum_told : tie.Need-enum-told
-enum_told c = search rules
+enum_told-1 : tie.Need-enum_told-1
+enum_told-1 c = search rules
 
-enum-told-2 : tie.Need-enum-told-2
-enum-told-2 c = search rules
+enum_told-in-Open : tie.Need-enum_told-in-Open
+enum_told-in-Open c = search rules
 
-enum-told-3 : tie.Need-enum-told-3
-enum-told-3 c = search rules
+enum_told-in-Ring : tie.Need-enum_told-in-Ring
+enum_told-in-Ring c = search rules
 
-returns : tie.Need-returns
+returns-in-Zero : tie.Need-returns-in-Zero
 unfolding starts
-returns c = rw c.enum_told.given.1
+returns-in-Zero c = rw c.in-Zero.is
 
-returns-2 : tie.Need-returns-2
+returns-in-Open : tie.Need-returns-in-Open
 unfolding starts
-returns-2 c = rw c.enum-told2.given.1
+returns-in-Open c = rw c.in-Open.is
 
-returns-3 : tie.Need-returns-3
+returns-in-Ring : tie.Need-returns-in-Ring
 unfolding starts
-returns-3 c = rw c.enum-told3.given.1
+returns-in-Ring c = rw c.in-Ring.is
 
-pub starts-spec : {M : Type 1} → statement M
-starts-spec = tie.close (tie.spec enum_told enum-told-2 enum-told-3 returns returns-2 returns-3)
+pub starts_spec : {M : Type 1} → statement M
+starts_spec = tie.close (tie.spec enum_told-1 enum_told-in-Open enum_told-in-Ring returns-in-Zero returns-in-Open returns-in-Ring)

@@ -15,14 +15,14 @@ unfolding found plus
 found-plus a none = refl
 found-plus a (some b) = refl
 
-returns : tie.Need-returns
+returns-then-x-eq-NOTHING : tie.Need-returns-then-x-eq-NOTHING
 unfolding found plus
-returns c = rw (held_none c.before.args.x c.if1.true)
+returns-then-x-eq-NOTHING c = rw (held_none c.before.args.x c.if-x-eq-NOTHING.true)
 
-returns-2 : tie.Need-returns-2
-returns-2 c =
+returns-else-x-eq-NOTHING : tie.Need-returns-else-x-eq-NOTHING
+returns-else-x-eq-NOTHING c =
     let args = c.before.args in
-    rw (held_some args.x c.if1.false) (sym (found-plus args.x _ ∙ found_held args.y))
+    rw (held_some args.x c.if-x-eq-NOTHING.false) (sym (found-plus args.x _ ∙ found_held args.y))
 
-pub both-reached-spec : {M : Type 1} → statement M
-both-reached-spec = tie.close (tie.spec returns returns-2)
+pub both_reached_spec : {M : Type 1} → statement M
+both_reached_spec = tie.close (tie.spec returns-then-x-eq-NOTHING returns-else-x-eq-NOTHING)

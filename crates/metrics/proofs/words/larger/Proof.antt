@@ -6,23 +6,23 @@ use Rattle.metrics.specs.laws.Held.{held_larger}
 use Rattle.metrics.proofs.words.larger.Statement.{statement}
 use Rattle.metrics.proofs.words.larger.Tie as tie
 
-returns : tie.Need-returns
+returns-then-a-b : tie.Need-returns-then-a-b
 unfolding max_ℤ
-returns c =
+returns-then-a-b c =
     let start = c.before in
     let a-fits = start.ranges.a in
     let b-fits = start.ranges.b in
-    let test = simp plain at c.if1.true in
+    let test = simp plain at c.if-a-b.true in
     simp plain (rw test at (held_larger start.args.a start.args.b a-fits b-fits))
 
-returns-2 : tie.Need-returns-2
+returns-else-a-b : tie.Need-returns-else-a-b
 unfolding max_ℤ
-returns-2 c =
+returns-else-a-b c =
     let start = c.before in
     let a-fits = start.ranges.a in
     let b-fits = start.ranges.b in
-    let test = simp plain at c.if1.false in
+    let test = simp plain at c.if-a-b.false in
     simp plain (rw test at (held_larger start.args.a start.args.b a-fits b-fits))
 
-pub larger-spec : {M : Type 1} → statement M
-larger-spec = tie.close (tie.spec returns returns-2)
+pub larger_spec : {M : Type 1} → statement M
+larger_spec = tie.close (tie.spec returns-then-a-b returns-else-a-b)

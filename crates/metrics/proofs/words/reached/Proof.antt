@@ -8,5 +8,5 @@ use Rattle.metrics.proofs.words.reached.Tie as tie
 returns : tie.Need-returns
 returns c = sym (found_held c.args.x)
 
-pub reached-spec : {M : Type 1} → statement M
-reached-spec = tie.close (tie.spec returns)
+pub reached_spec : {M : Type 1} → statement M
+reached_spec = tie.close (tie.spec returns)

@@ -16,34 +16,34 @@ slice-aggregate-same c = search rules
 same-requires : tie.Need-same-requires
 same-requires c κs = search rules
 
-returns : tie.Need-returns
+returns-then-i-eq0 : tie.Need-returns-then-i-eq0
 unfolding line_fits bytes
-returns c = rw c.before.before.if1.true c.same.ensures
+returns-then-i-eq0 c = rw c.before.before.if-i-eq0.true c.same.ensures
 
-sub_row : tie.Need-overflow-sub-row
-sub_row c = search rules
+overflow_sub-row : tie.Need-overflow_sub-row
+overflow_sub-row c = search rules
 
-message-row-requires : tie.Need-message-row-requires
-message-row-requires c κs = search rules
+message_row-m-requires : tie.Need-message_row-m-requires
+message_row-m-requires c κs = search rules
 
-returns-2 : tie.Need-returns-2
-returns-2 c = ap (λ (m : Message). m.fits) c.message_row_lem.ensures ∙ message_line _ _ _ c.before.before.if1.false c.before.if2.true
+returns-then-row-k : tie.Need-returns-then-row-k
+returns-then-row-k c = ap (λ (m : Message). m.fits) c.message_row-m.ensures ∙ message_line _ _ _ c.before.before.if-i-eq0.false c.before.if-row-k.true
 
-tail-row-requires : tie.Need-tail-row-requires
-tail-row-requires c κs = search rules
+tail_row-t-requires : tie.Need-tail_row-t-requires
+tail_row-t-requires c κs = search rules
 
-returns-3 : tie.Need-returns-3
-returns-3 c = ap (λ (t : Tail). t.fits) c.tail_row_lem.ensures ∙ tail_line _ _ _ c.before.before.if1.false c.before.if2.false
+returns : tie.Need-returns
+returns c = ap (λ (t : Tail). t.fits) c.tail_row-t.ensures ∙ tail_line _ _ _ c.before.before.if-i-eq0.false c.before.if-row-k.false
 
-pub line-fits-spec : {M : Type 1} → statement M
-line-fits-spec =
+pub line_fits_spec : {M : Type 1} → statement M
+line_fits_spec =
     tie.close
     (tie.spec
     slice-aggregate-same
     same-requires
-    returns
-    sub_row
-    message-row-requires
-    returns-2
-    tail-row-requires
-    returns-3)
+    returns-then-i-eq0
+    overflow_sub-row
+    message_row-m-requires
+    returns-then-row-k
+    tail_row-t-requires
+    returns)

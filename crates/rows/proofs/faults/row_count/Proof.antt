@@ -6,17 +6,17 @@ use borrow.Author.Rules.{rules}
 use Rattle.rows.proofs.faults.row_count.Statement.{statement}
 use Rattle.rows.proofs.faults.row_count.Tie as tie
 
+returns-then-last-length : tie.Need-returns-then-last-length
+returns-then-last-length c = rw (lt-leb _ _ c.if-last-length.true) (omega arith)
+
+returns-then-lines-eq0 : tie.Need-returns-then-lines-eq0
+returns-then-lines-eq0 c = rw (le-leb _ _ c.before.if-last-length.false) (omega arith)
+
+overflow_sub-result : tie.Need-overflow_sub-result
+overflow_sub-result c = search rules
+
 returns : tie.Need-returns
-returns c = rw (lt-leb _ _ c.if1.true) (omega arith)
+returns c = rw (le-leb _ _ c.before.if-last-length.false) (omega arith)
 
-returns-2 : tie.Need-returns-2
-returns-2 c = rw (le-leb _ _ c.before.if1.false) (omega arith)
-
-sub-result : tie.Need-overflow-sub-result
-sub-result c = search rules
-
-returns-3 : tie.Need-returns-3
-returns-3 c = rw (le-leb _ _ c.before.if1.false) (omega arith)
-
-pub row-count-spec : {M : Type 1} → statement M
-row-count-spec = tie.close (tie.spec returns returns-2 sub-result returns-3)
+pub row_count_spec : {M : Type 1} → statement M
+row_count_spec = tie.close (tie.spec returns-then-last-length returns-then-lines-eq0 overflow_sub-result returns)

@@ -17,117 +17,117 @@ use Rattle.rows.specs.laws.Fitting.{lines_are, last_empty, rows_are, too_long, t
 use Rattle.rows.proofs.faults.text_reply.Statement.{statement}
 use Rattle.rows.proofs.faults.text_reply.Tie as tie
 
-rows_eq : (c : tie.After-row-count) → c.row_count.result ≡ row_count c.before.before.before.before.args.sheet.now
-rows_eq c = c.row_count.ensures ∙ sym (rows_are c.before.before.pieces.ensures)
+rows_eq : (c : tie.After-row_count-rows) → c.row_count-rows.result ≡ row_count c.before.before.before.before.args.sheet.now
+rows_eq c = c.row_count-rows.ensures ∙ sym (rows_are c.before.before.pieces-cut.ensures)
 
-abbrev counted-rows : tie.Else3 → tie.After-row-count
+abbrev counted-rows : tie.Else-rows-gt514 → tie.After-row_count-rows
 counted-rows c = c.before.before.before
 
-abbrev told : tie.Else3 → tie.After-pieces
+abbrev told : tie.Else-rows-gt514 → tie.After-pieces-cut
 told c = (counted-rows c).before.before
 
-abbrev sheet : tie.Else3 → List ℕ
+abbrev sheet : tie.Else-rows-gt514 → List ℕ
 sheet c = (told c).before.before.args.sheet.now
 
-short : (c : tie.Else3) → length (sheet c) ≤ 16384
-short c = c.before.before.if1.false
+short : (c : tie.Else-rows-gt514) → length (sheet c) ≤ 16384
+short c = c.before.before.if-sheet-gt16384.false
 
-least : (c : tie.Else3) → 3 ≤ row_count (sheet c)
-least c = rw (rows_eq (counted-rows c)) at c.before.if2.false
+least : (c : tie.Else-rows-gt514) → 3 ≤ row_count (sheet c)
+least c = rw (rows_eq (counted-rows c)) at c.before.if-rows-lt3.false
 
-most : (c : tie.Else3) → row_count (sheet c) ≤ 514
-most c = rw (rows_eq (counted-rows c)) at c.if3.false
+most : (c : tie.Else-rows-gt514) → row_count (sheet c) ≤ 514
+most c = rw (rows_eq (counted-rows c)) at c.if-rows-gt514.false
 
-bits-eq : (c : tie.Else3) → message_bits (sheet c) ≡ (counted-rows c).row_count.result - 2
+bits-eq : (c : tie.Else-rows-gt514) → message_bits (sheet c) ≡ (counted-rows c).row_count.result - 2
 unfolding message_bits
 bits-eq c = ap (λ (n : ℕ). n - 2) (sym (rows_eq (counted-rows c)))
 
-few : (c : tie.Else3) → (told c).pieces.result.count - 1 ≤ 515
-few c = omega (arith, (counted-rows c).row_count.ensures, c.if3.false)
+few : (c : tie.Else-rows-gt514) → (told c).pieces.result.count - 1 ≤ 515
+few c = omega (arith, (counted-rows c).row_count.ensures, c.if-rows-gt514.false)
 
-none_found : (c : tie.Else4) → fault_from (message_bits (sheet c.before.before)) 0 (lines_of (sheet c.before.before)) ≡ none
+none_found : (c : tie.Else-fault-lines) → fault_from (message_bits (sheet c.before.before)) 0 (lines_of (sheet c.before.before)) ≡ none
 none_found c =
     let ran = c.before in
     let s = sheet ran.before in
-    ap (λ (n : ℕ). fault_from n 0 (lines_of s)) (bits-eq ran.before) ∙ ran.first-fault.ensures.1 ∙ rw (le-ltb _ _ c.if4.false) refl
+    ap (λ (n : ℕ). fault_from n 0 (lines_of s)) (bits-eq ran.before) ∙ ran.first_fault-fault.ensures.1 ∙ rw (le-ltb _ _ c.if-fault-lines.false) refl
 
-pieces-requires : tie.Need-pieces-requires
-pieces-requires c κs = search rules
+pieces-cut-requires : tie.Need-pieces-cut-requires
+pieces-cut-requires c κs = search rules
 
-sub-lines : tie.Need-overflow-sub-lines
-sub-lines c = omega (arith, cut_some 10 c.before.before.before.args.sheet.now, c.before.pieces.ensures.counted)
+overflow_sub-lines : tie.Need-overflow_sub-lines
+overflow_sub-lines c = omega (arith, cut_some 10 c.before.before.before.args.sheet.now, c.before.pieces-cut.ensures.counted)
 
-row-count-requires : tie.Need-row-count-requires
-row-count-requires c κs = search rules
+row_count-rows-requires : tie.Need-row_count-rows-requires
+row_count-rows-requires c κs = search rules
 
-returns : tie.Need-returns
+returns-then-sheet-gt16384 : tie.Need-returns-then-sheet-gt16384
 unfolding place_of toldOf
-returns c = (too_long _ c.if1.true, omega arith)
+returns-then-sheet-gt16384 c = (too_long _ c.if-sheet-gt16384.true, omega arith)
 
-returns-2 : tie.Need-returns-2
+returns-then-rows-lt3 : tie.Need-returns-then-rows-lt3
 unfolding place_of toldOf
-returns-2 c = (too_few _ (rw (rows_eq c.before.before) at c.if2.true), omega arith)
+returns-then-rows-lt3 c = (too_few _ (rw (rows_eq c.before.before) at c.if-rows-lt3.true), omega arith)
 
-returns-3 : tie.Need-returns-3
+returns-then-rows-gt514 : tie.Need-returns-then-rows-gt514
 unfolding place_of toldOf
-returns-3 c = (too_many _ (rw (rows_eq c.before.before.before) at c.if3.true), omega arith)
+returns-then-rows-gt514 c = (too_many _ (rw (rows_eq c.before.before.before) at c.if-rows-gt514.true), omega arith)
 
-sub-first-fault : tie.Need-overflow-sub-first-fault
-sub-first-fault c = search rules
+overflow_sub-rows : tie.Need-overflow_sub-rows
+overflow_sub-rows c = search rules
 
-first-fault-requires : tie.Need-first-fault-requires
-first-fault-requires c κs = sym (lines_are c.before.before.before.before.before.pieces.ensures)
+first_fault-fault-requires : tie.Need-first_fault-fault-requires
+first_fault-fault-requires c κs = sym (lines_are c.before.before.before.before.before.pieces-cut.ensures)
 
-add-t12 : tie.Need-overflow-add-t12
-add-t12 c = search rules
+overflow_add-result : tie.Need-overflow_add-result
+overflow_add-result c = search rules
 
-returns-4 : tie.Need-returns-4
+returns-then-fault-lines : tie.Need-returns-then-fault-lines
 unfolding place_of toldOf
-returns-4 c =
+returns-then-fault-lines c =
     let ran = c.before in
     let fits = ran.before in
     let s = sheet fits in
-    let e : fault_from (message_bits s) 0 (lines_of s) ≡ some ran.first-fault.result =
-    ap (λ (n : ℕ). fault_from n 0 (lines_of s)) (bits-eq fits) ∙ ran.first-fault.ensures.1 ∙ rw (lt-ltb _ _ c.if4.true) refl in
-    (text_fault s (short fits) (least fits) (most fits) e, omega (arith, few fits, c.if4.true))
+    let e : fault_from (message_bits s) 0 (lines_of s) ≡ some ran.first_fault-fault.result =
+    ap (λ (n : ℕ). fault_from n 0 (lines_of s)) (bits-eq fits) ∙ ran.first_fault-fault.ensures.1 ∙ rw (lt-ltb _ _ c.if-fault-lines.true) refl in
+    (text_fault s (short fits) (least fits) (most fits) e, omega (arith, few fits, c.if-fault-lines.true))
 
-add-t14 : tie.Need-overflow-add-t14
-add-t14 c = search rules
+overflow_add-result-then-last-sheet : tie.Need-overflow_add-result-then-last-sheet
+overflow_add-result-then-last-sheet c = search rules
 
-returns-5 : tie.Need-returns-5
+returns-then-last-sheet : tie.Need-returns-then-last-sheet
 unfolding place_of toldOf
-returns-5 c =
+returns-then-last-sheet c =
     let ran = c.before.before in
     let fits = ran.before in
     let s = sheet fits in
     let counted = (told fits).pieces.ensures in
-    let unended = last_empty counted ∙ lt-leb _ _ c.if5.true in
+    let unended = last_empty counted ∙ lt-leb _ _ c.if-last-sheet.true in
     (ap (λ (n : ℕ). Refused (Text (n + 1))) (sym (lines_are counted)) ∙ text_open s (short fits) (least fits) (most fits) (none_found c.before) unended, omega (arith, few fits))
 
-returns-6 : tie.Need-returns-6
+returns : tie.Need-returns
 unfolding place_of toldOf
-returns-6 c =
+returns c =
     let ran = c.before.before in
     let fits = ran.before in
     let s = sheet fits in
     let counted = (told fits).pieces.ensures in
-    let whole = last_empty counted ∙ le-leb _ _ c.if5.false in
+    let whole = last_empty counted ∙ le-leb _ _ c.if-last-sheet.false in
     (text_done s (short fits) (least fits) (most fits) (none_found c.before) whole, omega arith)
 
-pub text-reply-spec : {M : Type 1} → statement M
-text-reply-spec =
+pub text_reply_spec : {M : Type 1} → statement M
+text_reply_spec =
     tie.close
     (tie.spec
-    pieces-requires
-    sub-lines
-    row-count-requires
-    returns
-    returns-2
-    returns-3
-    sub-first-fault
-    first-fault-requires
-    add-t12
-    returns-4
-    add-t14
-    returns-5
-    returns-6)
+    pieces-cut-requires
+    overflow_sub-lines
+    row_count-rows-requires
+    returns-then-sheet-gt16384
+    returns-then-rows-lt3
+    returns-then-rows-gt514
+    overflow_sub-rows
+    first_fault-fault-requires
+    overflow_add-result
+    returns-then-fault-lines
+    overflow_add-result-then-last-sheet
+    returns-then-last-sheet
+    returns)

@@ -9,17 +9,17 @@ use Rattle.rows.specs.Rows.{field_at, dash}
 use Rattle.rows.proofs.fields.dash_at.Statement.{statement}
 use Rattle.rows.proofs.fields.dash_at.Tie as tie
 
-piece-requires : tie.Need-piece-requires
-piece-requires c κs = search rules
+piece-span-requires : tie.Need-piece-span-requires
+piece-span-requires c κs = search rules
 
-sub_same : tie.Need-overflow-sub-same
-sub_same c = search rules
+slice_bounds-same-count : tie.Need-slice_bounds-same-count
+slice_bounds-same-count c = search rules
 
-part-same-start : tie.Need-slice-bounds-same-start
-part-same-start c = search rules
+slice_bounds-same-start : tie.Need-slice_bounds-same-start
+slice_bounds-same-start c = search rules
 
-part-same-end : tie.Need-slice-bounds-same-end
-part-same-end c = search rules
+slice_bounds-same-end : tie.Need-slice_bounds-same-end
+slice_bounds-same-end c = search rules
 
 slice-aggregate-same : tie.Need-slice-aggregate-same
 slice-aggregate-same c = search rules
@@ -29,16 +29,16 @@ same-requires c κs = search rules
 
 returns : tie.Need-returns
 unfolding field_at dash bytes
-returns c = c.same.ensures ∙ ap (λ (f : List ℕ). same f (bytes "-")) c.before.before.before.piece.ensures.is_piece
+returns c = c.same.ensures ∙ ap (λ (f : List ℕ). same f (bytes "-")) c.before.before.before.piece-span.ensures.is_piece
 
-pub dash-at-spec : {M : Type 1} → statement M
-dash-at-spec =
+pub dash_at_spec : {M : Type 1} → statement M
+dash_at_spec =
     tie.close
     (tie.spec
-    piece-requires
-    sub_same
-    part-same-start
-    part-same-end
+    piece-span-requires
+    slice_bounds-same-count
+    slice_bounds-same-start
+    slice_bounds-same-end
     slice-aggregate-same
     same-requires
     returns)

@@ -7,32 +7,32 @@ use Rattle.rows.specs.Rows.{field_at}
 use Rattle.rows.proofs.fields.integer_at.Statement.{statement}
 use Rattle.rows.proofs.fields.integer_at.Tie as tie
 
-piece-requires : tie.Need-piece-requires
-piece-requires c κs = search rules
+piece-span-requires : tie.Need-piece-span-requires
+piece-span-requires c κs = search rules
 
-sub-read-integer : tie.Need-overflow-sub-read-integer
-sub-read-integer c = search rules
+slice_bounds-read_integer-count : tie.Need-slice_bounds-read_integer-count
+slice_bounds-read_integer-count c = search rules
 
-part-read-integer-start : tie.Need-slice-bounds-read-integer-start
-part-read-integer-start c = search rules
+slice_bounds-read_integer-start : tie.Need-slice_bounds-read_integer-start
+slice_bounds-read_integer-start c = search rules
 
-part-read-integer-end : tie.Need-slice-bounds-read-integer-end
-part-read-integer-end c = search rules
+slice_bounds-read_integer-end : tie.Need-slice_bounds-read_integer-end
+slice_bounds-read_integer-end c = search rules
 
-read-integer-requires : tie.Need-read-integer-requires
-read-integer-requires c κs = search rules
+read_integer-requires : tie.Need-read_integer-requires
+read_integer-requires c κs = search rules
 
 returns : tie.Need-returns
 unfolding field_at
-returns c = c.read-integer.ensures ∙ ap integer c.before.before.piece.ensures.is_piece
+returns c = c.read_integer.ensures ∙ ap integer c.before.before.piece-span.ensures.is_piece
 
-pub integer-at-spec : {M : Type 1} → statement M
-integer-at-spec =
+pub integer_at_spec : {M : Type 1} → statement M
+integer_at_spec =
     tie.close
     (tie.spec
-    piece-requires
-    sub-read-integer
-    part-read-integer-start
-    part-read-integer-end
-    read-integer-requires
+    piece-span-requires
+    slice_bounds-read_integer-count
+    slice_bounds-read_integer-start
+    slice_bounds-read_integer-end
+    read_integer-requires
     returns)

@@ -7,32 +7,32 @@ use Rattle.rows.specs.Rows.{field_at}
 use Rattle.rows.proofs.fields.natural_at.Statement.{statement}
 use Rattle.rows.proofs.fields.natural_at.Tie as tie
 
-piece-requires : tie.Need-piece-requires
-piece-requires c κs = search rules
+piece-span-requires : tie.Need-piece-span-requires
+piece-span-requires c κs = search rules
 
-sub-read-natural : tie.Need-overflow-sub-read-natural
-sub-read-natural c = search rules
+slice_bounds-read_natural-count : tie.Need-slice_bounds-read_natural-count
+slice_bounds-read_natural-count c = search rules
 
-part-read-natural-start : tie.Need-slice-bounds-read-natural-start
-part-read-natural-start c = search rules
+slice_bounds-read_natural-start : tie.Need-slice_bounds-read_natural-start
+slice_bounds-read_natural-start c = search rules
 
-part-read-natural-end : tie.Need-slice-bounds-read-natural-end
-part-read-natural-end c = search rules
+slice_bounds-read_natural-end : tie.Need-slice_bounds-read_natural-end
+slice_bounds-read_natural-end c = search rules
 
-read-natural-requires : tie.Need-read-natural-requires
-read-natural-requires c κs = search rules
+read_natural-requires : tie.Need-read_natural-requires
+read_natural-requires c κs = search rules
 
 returns : tie.Need-returns
 unfolding field_at
-returns c = c.read-natural.ensures ∙ ap natural c.before.before.piece.ensures.is_piece
+returns c = c.read_natural.ensures ∙ ap natural c.before.before.piece-span.ensures.is_piece
 
-pub natural-at-spec : {M : Type 1} → statement M
-natural-at-spec =
+pub natural_at_spec : {M : Type 1} → statement M
+natural_at_spec =
     tie.close
     (tie.spec
-    piece-requires
-    sub-read-natural
-    part-read-natural-start
-    part-read-natural-end
-    read-natural-requires
+    piece-span-requires
+    slice_bounds-read_natural-count
+    slice_bounds-read_natural-start
+    slice_bounds-read_natural-end
+    read_natural-requires
     returns)

@@ -7,19 +7,19 @@ use Rattle.rows.specs.laws.Reading.{received_sent}
 use Rattle.rows.proofs.fields.value_at.Statement.{statement}
 use Rattle.rows.proofs.fields.value_at.Tie as tie
 
-dash-at-requires : tie.Need-dash-at-requires
-dash-at-requires c κs = search rules
+dash_at-requires : tie.Need-dash_at-requires
+dash_at-requires c κs = search rules
+
+returns-then-dash_at : tie.Need-returns-then-dash_at
+unfolding value_or_unsent
+returns-then-dash_at c = rw (sym c.before.dash_at.ensures ∙ c.if-dash_at.true) refl
+
+integer_at-requires : tie.Need-integer_at-requires
+integer_at-requires c κs = search rules
 
 returns : tie.Need-returns
 unfolding value_or_unsent
-returns c = rw (sym c.before.dash-at.ensures ∙ c.if1.true) refl
+returns c = rw (sym c.before.before.dash_at.ensures ∙ c.before.if-dash_at.false) (c.integer_at.ensures ∙ received_sent _)
 
-integer-at-requires : tie.Need-integer-at-requires
-integer-at-requires c κs = search rules
-
-returns-2 : tie.Need-returns-2
-unfolding value_or_unsent
-returns-2 c = rw (sym c.before.before.dash-at.ensures ∙ c.before.if1.false) (c.integer-at.ensures ∙ received_sent _)
-
-pub value-at-spec : {M : Type 1} → statement M
-value-at-spec = tie.close (tie.spec dash-at-requires returns integer-at-requires returns-2)
+pub value_at_spec : {M : Type 1} → statement M
+value_at_spec = tie.close (tie.spec dash_at-requires returns-then-dash_at integer_at-requires returns)

@@ -8,58 +8,58 @@ use Rattle.rows.specs.laws.Pieces.{Begins, begins_first, begins_next, ends_insid
 use Rattle.rows.proofs.lines.piece.Statement.{statement}
 use Rattle.rows.proofs.lines.piece.Tie as tie
 
-abbrev invariant-loop : tie.invariant-loop
+abbrev invariant-loop : tie.invariant-loop-j
 invariant-loop bytes byte i from₀ j₀ from j = (j ≤ i) × (j ≤ from) × Begins byte bytes j from
 
-abbrev decreases-loop : tie.decreases-loop
+abbrev decreases-loop : tie.decreases-loop-j
 decreases-loop bytes byte i from₀ j₀ from j = i - j
 
-loop-holds : tie.Need-loop-init invariant-loop decreases-loop
-loop-holds c = (search rules, search rules, begins_first _ _)
+loop-j-init : tie.Need-loop-j-init invariant-loop decreases-loop
+loop-j-init c = (search rules, search rules, begins_first _ _)
 
-next-at-requires : tie.Need-next-at-requires invariant-loop decreases-loop
-next-at-requires c κs = search rules
+next_at-end-requires : tie.Need-next_at-end-requires invariant-loop decreases-loop
+next_at-end-requires c κs = search rules
+
+returns-then-bytes-end : tie.Need-returns-then-bytes-end invariant-loop decreases-loop
+returns-then-bytes-end c =
+    let inv = c.before.before.before.loop-j.invariant in
+    piece_none _ inv.2 c.before.next_at-end.ensures (omega (arith, ends_inside _ inv.2 c.before.next_at-end.ensures)) _ c.before.before.loop-j-test.true
+
+overflow_add-from : tie.Need-overflow_add-from invariant-loop decreases-loop
+overflow_add-from c = search rules
+
+overflow_add-j : tie.Need-overflow_add-j invariant-loop decreases-loop
+overflow_add-j c = search rules
+
+loop-j-smaller : tie.Need-loop-j-smaller invariant-loop decreases-loop
+loop-j-smaller c = search rules
+
+loop-j-preserved : tie.Need-loop-j-preserved invariant-loop decreases-loop
+loop-j-preserved c =
+    let inv = c.before.before.before.loop-j.invariant in
+    (omega arith, omega arith, begins_next _ inv.2 c.before.next_at-end.ensures c.if-bytes-end.false)
+
+next_at-to-requires : tie.Need-next_at-to-requires invariant-loop decreases-loop
+next_at-to-requires c κs = search rules
 
 returns : tie.Need-returns invariant-loop decreases-loop
 returns c =
-    let inv = c.before.before.before.loop.invariant in
-    piece_none _ inv.2 c.before.next-at.ensures (omega (arith, ends_inside _ inv.2 c.before.next-at.ensures)) _ c.before.before.loop-test.true
-
-add-from : tie.Need-overflow-add-from invariant-loop decreases-loop
-add-from c = search rules
-
-add-j : tie.Need-overflow-add-j invariant-loop decreases-loop
-add-j c = search rules
-
-loop-less : tie.Need-loop-smaller invariant-loop decreases-loop
-loop-less c = search rules
-
-loop-again : tie.Need-loop-preserved invariant-loop decreases-loop
-loop-again c =
-    let inv = c.before.before.before.loop.invariant in
-    (omega arith, omega arith, begins_next _ inv.2 c.before.next-at.ensures c.if1.false)
-
-next-at-requires-2 : tie.Need-next-at-requires-2 invariant-loop decreases-loop
-next-at-requires-2 c κs = search rules
-
-returns-2 : tie.Need-returns-2 invariant-loop decreases-loop
-returns-2 c =
-    let loop = c.before.before.loop in
+    let loop = c.before.before.loop-j in
     let all : loop.j ≡ c.before.before.before.before.args.i = omega arith in
-    rw all at (piece_here _ loop.invariant.2 c.next-at2.ensures)
+    rw all at (piece_here _ loop.invariant.2 c.next_at-to.ensures)
 
-pub piece-spec : {M : Type 1} → statement M
-piece-spec =
+pub piece_spec : {M : Type 1} → statement M
+piece_spec =
     tie.close
     (tie.spec
     invariant-loop
     decreases-loop
-    loop-holds
-    next-at-requires
-    returns
-    add-from
-    add-j
-    loop-less
-    loop-again
-    next-at-requires-2
-    returns-2)
+    loop-j-init
+    next_at-end-requires
+    returns-then-bytes-end
+    overflow_add-from
+    overflow_add-j
+    loop-j-smaller
+    loop-j-preserved
+    next_at-to-requires
+    returns)

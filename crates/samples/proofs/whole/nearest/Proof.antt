@@ -13,14 +13,14 @@ use Rattle.samples.specs.laws.Rounding.{of_bits_lem}
 use Rattle.samples.proofs.whole.nearest.Statement.{statement}
 use Rattle.samples.proofs.whole.nearest.Tie as tie
 
-float-to-bits-bits : tie.Need-float-to-bits-bits
-float-to-bits-bits c = c.requires
+float_to_bits-bits : tie.Need-float_to_bits-bits
+float_to_bits-bits c = c.requires
 
-size-at-requires : tie.Need-size-at-requires
-size-at-requires c κs = search rules
+size_at-size-requires : tie.Need-size_at-size-requires
+size_at-size-requires c κs = search rules
 
 signed-requires : tie.Need-signed-requires
-signed-requires c κs = c.size-at.ensures.1
+signed-requires c κs = c.size_at-size.ensures.1
 
 returns : tie.Need-returns
 returns c =
@@ -28,8 +28,8 @@ returns c =
     let whole : T (fits binary32 x) = search rules in
     let back = of_bits-to_bits binary32 x whole in
     let small : SFits w16 c.signed.result = search rules in
-    to_z-of_z small ∙ c.signed.ensures ∙ ap (with_sign (leb 2147483648 (to_bits binary32 x))) c.before.size-at.ensures.0
+    to_z-of_z small ∙ c.signed.ensures ∙ ap (with_sign (leb 2147483648 (to_bits binary32 x))) c.before.size_at-size.ensures.0
     ∙ sym (of_bits_lem (to_bits binary32 x) (rw back (is_false _ c.before.before.requires))) ∙ ap nearest_value back
 
-pub nearest-spec : {M : Type 1} → statement M
-nearest-spec = tie.close (tie.spec float-to-bits-bits size-at-requires signed-requires returns)
+pub nearest_spec : {M : Type 1} → statement M
+nearest_spec = tie.close (tie.spec float_to_bits-bits size_at-size-requires signed-requires returns)

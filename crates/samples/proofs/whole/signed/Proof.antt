@@ -21,20 +21,20 @@ opposite n = simp ints (omega arith)
 minus : (n : ℕ) → pos 0 -ℤ pos n ≡ neg_ℤ (pos n)
 minus n = simp ints (omega arith)
 
-cast-result : tie.Need-overflow-cast-result
-cast-result c = search rules
+overflow_cast-result : tie.Need-overflow_cast-result
+overflow_cast-result c = search rules
 
-sub-result : tie.Need-overflow-sub-result
-sub-result c = rw (to_z_pos w16 (small c.before)) (opposite _ c.before.requires)
+overflow_sub-result : tie.Need-overflow_sub-result
+overflow_sub-result c = rw (to_z_pos w16 (small c.before)) (opposite _ c.before.requires)
 
-cast-result-2 : tie.Need-overflow-cast-result-2
-cast-result-2 c = search rules
+overflow_cast-result-else-negative : tie.Need-overflow_cast-result-else-negative
+overflow_cast-result-else-negative c = search rules
 
-returns : tie.Need-returns
-returns c = rw (c.if1.true, to_z_pos w16 (small c.before)) (to_z-of_z (opposite _ c.before.requires) ∙ minus c.before.args.size)
+returns-then-negative : tie.Need-returns-then-negative
+returns-then-negative c = rw (c.if-negative.true, to_z_pos w16 (small c.before)) (to_z-of_z (opposite _ c.before.requires) ∙ minus c.before.args.size)
 
-returns-2 : tie.Need-returns-2
-returns-2 c = rw (c.if1.false, to_z_pos w16 (small c.before))
+returns-else-negative : tie.Need-returns-else-negative
+returns-else-negative c = rw (c.if-negative.false, to_z_pos w16 (small c.before))
 
-pub signed-spec : {M : Type 1} → statement M
-signed-spec = tie.close (tie.spec cast-result sub-result cast-result-2 returns returns-2)
+pub signed_spec : {M : Type 1} → statement M
+signed_spec = tie.close (tie.spec overflow_cast-result overflow_sub-result overflow_cast-result-else-negative returns-then-negative returns-else-negative)

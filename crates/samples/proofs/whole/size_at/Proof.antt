@@ -10,48 +10,48 @@ use Rattle.samples.specs.laws.Rounding.{size_at, size_low, size_high, size_betwe
 use Rattle.samples.proofs.whole.size_at.Statement.{statement}
 use Rattle.samples.proofs.whole.size_at.Tie as tie
 
-between : (c : tie.After-quotient) → min 1023 c.quotient.result ≡ size_at c.before.before.before.args.exponent c.before.before.before.args.digits
+between : (c : tie.After-quotient-size) → min 1023 c.quotient-size.result ≡ size_at c.before.before.before.args.exponent c.before.before.before.args.digits
 between c =
     let args = c.before.before.before.args in
-    let low = c.before.before.if1.false in
-    ap (min 1023) (rw (shifted args.exponent low) at c.quotient.ensures) ∙ sym (size_between args.digits low c.before.if2.false)
+    let low = c.before.before.if-exponent-lt126.false in
+    ap (min 1023) (rw (shifted args.exponent low) at c.quotient-size.ensures) ∙ sym (size_between args.digits low c.before.if-exponent-gt136.false)
 
-returns : tie.Need-returns
-returns c = (sym (size_low _ c.if1.true), lit≤ tt)
+returns-then-exponent-lt126 : tie.Need-returns-then-exponent-lt126
+returns-then-exponent-lt126 c = (sym (size_low _ c.if-exponent-lt126.true), lit≤ tt)
 
-returns-2 : tie.Need-returns-2
-returns-2 c = (sym (size_high _ c.if2.true), lit≤ tt)
+returns-then-exponent-gt136 : tie.Need-returns-then-exponent-gt136
+returns-then-exponent-gt136 c = (sym (size_high _ c.if-exponent-gt136.true), lit≤ tt)
 
-add-quotient : tie.Need-overflow-add-quotient
-add-quotient c = search rules
+overflow_add-digits : tie.Need-overflow_add-digits
+overflow_add-digits c = search rules
 
-sub-quotient : tie.Need-overflow-sub-quotient
-sub-quotient c = search rules
+overflow_sub-exponent : tie.Need-overflow_sub-exponent
+overflow_sub-exponent c = search rules
 
-shl-quotient : tie.Need-overflow-shl-quotient
-shl-quotient c = search rules
+overflow_shl-exponent : tie.Need-overflow_shl-exponent
+overflow_shl-exponent c = search rules
 
-quotient-requires : tie.Need-quotient-requires
-quotient-requires c κs =
+quotient-size-requires : tie.Need-quotient-size-requires
+quotient-size-requires c κs =
     let exponent = c.before.before.args.exponent in
-    let low = c.before.if1.false in
+    let low = c.before.if-exponent-lt126.false in
     rw (shifted exponent low) (pow_pos (150 - exponent), power_small exponent low, omega arith)
 
-returns-3 : tie.Need-returns-3
-returns-3 c = (omega (arith, between c.before, c.if3.true), lit≤ tt)
+returns-then-size-gt1023 : tie.Need-returns-then-size-gt1023
+returns-then-size-gt1023 c = (omega (arith, between c.before, c.if-size-gt1023.true), lit≤ tt)
 
-returns-4 : tie.Need-returns-4
-returns-4 c = (omega (arith, between c.before), c.if3.false)
+returns : tie.Need-returns
+returns c = (omega (arith, between c.before), c.if-size-gt1023.false)
 
-pub size-at-spec : {M : Type 1} → statement M
-size-at-spec =
+pub size_at_spec : {M : Type 1} → statement M
+size_at_spec =
     tie.close
     (tie.spec
-    returns
-    returns-2
-    add-quotient
-    sub-quotient
-    shl-quotient
-    quotient-requires
-    returns-3
-    returns-4)
+    returns-then-exponent-lt126
+    returns-then-exponent-gt136
+    overflow_add-digits
+    overflow_sub-exponent
+    overflow_shl-exponent
+    quotient-size-requires
+    returns-then-size-gt1023
+    returns)

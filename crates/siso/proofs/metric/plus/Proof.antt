@@ -19,33 +19,33 @@ use Rattle.siso.proofs.metric.plus.Tie as tie
 within-fits : (z : ℤ) → Within 200000000 z → SFits w32 z
 within-fits z = simp ints (omega arith)
 
-module _ (c : tie.Else1) where
+module _ (c : tie.Else-m-eq-NOTHING) where
   abbrev start : tie.Start
   start = c.before
 
   is-there : held start.args.m ≡ some start.args.m
-  is-there = held_some _ c.if1.false
+  is-there = held_some _ c.if-m-eq-NOTHING.false
 
   sum_small : Within 200000000 (start.args.m +ℤ start.args.g)
   sum_small = within_sum (small_known (rw is-there at start.pre.0)) start.pre.1
 
-add-result : tie.Need-overflow-add-result
-add-result c =
+overflow_add-result : tie.Need-overflow_add-result
+overflow_add-result c =
     let m-fits = c.before.ranges.m in
     let g-fits = c.before.ranges.g in
     simp plain (within-fits _ (sum_small c))
 
-returns : tie.Need-returns
+returns-then-m-eq-NOTHING : tie.Need-returns-then-m-eq-NOTHING
 unfolding plus
-returns c = rw (held_none c.before.args.m c.if1.true)
+returns-then-m-eq-NOTHING c = rw (held_none c.before.args.m c.if-m-eq-NOTHING.true)
 
-returns-2 : tie.Need-returns-2
+returns-else-m-eq-NOTHING : tie.Need-returns-else-m-eq-NOTHING
 unfolding plus
-returns-2 c =
+returns-else-m-eq-NOTHING c =
     let m-fits = c.before.ranges.m in
     let g-fits = c.before.ranges.g in
     let sum_fits = within-fits _ (sum_small c) in
     simp plain (rw (is-there c) (held_small _ (sum_small c)))
 
-pub plus-spec : {M : Type 1} → statement M
-plus-spec = tie.close (tie.spec add-result returns returns-2)
+pub plus_spec : {M : Type 1} → statement M
+plus_spec = tie.close (tie.spec overflow_add-result returns-then-m-eq-NOTHING returns-else-m-eq-NOTHING)

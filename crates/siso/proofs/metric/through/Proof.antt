@@ -19,18 +19,18 @@ use Rattle.siso.proofs.metric.through.Tie as tie
 within-fits : (z : ℤ) → Within 50323451 z → SFits w32 z
 within-fits z = simp ints (omega arith)
 
-module _ (c : tie.Else1) where
+module _ (c : tie.Else-f-eq-NOTHING) where
   abbrev start : tie.Start
   start = c.before
 
   is-there : held start.args.f ≡ some start.args.f
-  is-there = held_some _ c.if1.false
+  is-there = held_some _ c.if-f-eq-NOTHING.false
 
   sum_small : Within 50323451 (start.args.f +ℤ start.args.g)
   sum_small = within_sum (small_known (rw is-there at start.pre.0)) start.pre.1.0
 
-add-plus : tie.Need-overflow-add-plus
-add-plus c =
+overflow_add-f : tie.Need-overflow_add-f
+overflow_add-f c =
     let f-fits = c.before.ranges.f in
     let g-fits = c.before.ranges.g in
     simp plain (within-fits _ (sum_small c))
@@ -44,23 +44,23 @@ plus-requires c κs =
     let sum_fits = within-fits _ (sum_small c) in
     simp plain (small_more (omega arith) start.requires.1.1, within_more (omega arith) (sum_small c))
 
-returns : tie.Need-returns
+returns-then-f-eq-NOTHING : tie.Need-returns-then-f-eq-NOTHING
 unfolding plus
-returns c = rw (held_none c.before.args.f c.if1.true)
+returns-then-f-eq-NOTHING c = rw (held_none c.before.args.f c.if-f-eq-NOTHING.true)
 
-returns-2 : tie.Need-returns-2
+returns-else-f-eq-NOTHING : tie.Need-returns-else-f-eq-NOTHING
 unfolding plus
-returns-2 c =
+returns-else-f-eq-NOTHING c =
     let start = c.before.before in
     let f-fits = start.ranges.f in
     let g-fits = start.ranges.g in
     let m-fits = start.ranges.m in
     let sum_fits = within-fits _ (sum_small c.before) in
-    let r-fits = c.plus.type-inv in
+    let r-fits = c.plus.type_inv in
     let f = some start.args.f in
     let g = some start.args.g in
     let m = held start.args.m in
     simp plain (rw (is-there c.before) ((simp plain at c.plus.ensures) ∙ plus_comm m (plus f g) ∙ plus_assoc f g m))
 
-pub through-spec : {M : Type 1} → statement M
-through-spec = tie.close (tie.spec add-plus plus-requires returns returns-2)
+pub through_spec : {M : Type 1} → statement M
+through_spec = tie.close (tie.spec overflow_add-f plus-requires returns-then-f-eq-NOTHING returns-else-f-eq-NOTHING)

@@ -56,152 +56,152 @@ module _
 
 -- ---- the two best metrics
 
-abbrev start : tie.After-larger → tie.Start
+abbrev start : tie.After-larger-best0 → tie.Start
 start c = c.before.before.before.before
 
-abbrev zeros : tie.After-larger2 → tie.After-larger
+abbrev zeros : tie.After-larger-best1 → tie.After-larger-best0
 zeros c = c.before.before.before
 
 zero-raised :
-    (c : tie.After-larger) → let args = (start c).args in held c.larger.result ≡ raised args.first (get_or args.margins.now args.k (pos 0)) (held args.zero)
+    (c : tie.After-larger-best0) → let args = (start c).args in held c.larger-best0.result ≡ raised args.first (get_or args.margins-1.now args.k (pos 0)) (held args.zero)
 zero-raised c =
-    let x_fits : SFits w32 (get_or (start c).args.margins.now (start c).args.k (pos 0)) = fits_of c.before.before.had-arg.given in
-    let had-fits : SFits w32 c.before.had.result = fits_of c.before.had.type-inv in
-    (rw (to_z-of_z had-fits, to_z-of_z (start c).ranges.zero) at c.larger.ensures)
+    let x_fits : SFits w32 (get_or (start c).args.margins.now (start c).args.k (pos 0)) = fits_of c.before.before.had-arg-1.given in
+    let had-fits : SFits w32 c.before.had.result = fits_of c.before.had.type_inv in
+    (rw (to_z-of_z had-fits, to_z-of_z (start c).ranges.zero) at c.larger-best0.ensures)
     ∙ ap (λ m. larger m (held (start c).args.zero)) (c.before.had.ensures ∙ ap (before (start c).args.first) (to_z-of_z x_fits))
 
 one-raised :
-    (c : tie.After-larger2) → let args = (start (zeros c)).args in held c.larger2.result ≡ raised args.first (get_or args.extrinsics.now args.k (pos 0)) (held args.one)
+    (c : tie.After-larger-best1) → let args = (start (zeros c)).args in held c.larger-best1.result ≡ raised args.first (get_or args.extrinsics-1.now args.k (pos 0)) (held args.one)
 one-raised c =
     let begun = start (zeros c) in
-    let x_fits : SFits w32 (get_or begun.args.extrinsics.now begun.args.k (pos 0)) = fits_of c.before.before.had-arg2.given in
-    let had-fits : SFits w32 c.before.had2.result = fits_of c.before.had2.type-inv in
-    (rw (to_z-of_z had-fits, to_z-of_z begun.fits.one) at c.larger2.ensures)
-    ∙ ap (λ m. larger m (held begun.args.one)) (c.before.had2.ensures ∙ ap (before begun.args.first) (to_z-of_z x_fits))
+    let x_fits : SFits w32 (get_or begun.args.extrinsics.now begun.args.k (pos 0)) = fits_of c.before.before.had-arg-2-1.given in
+    let had-fits : SFits w32 c.before.had-2.result = fits_of c.before.had-2.type_inv in
+    (rw (to_z-of_z had-fits, to_z-of_z begun.fits.one) at c.larger-best1.ensures)
+    ∙ ap (λ m. larger m (held begun.args.one)) (c.before.had-2.ensures ∙ ap (before begun.args.first) (to_z-of_z x_fits))
 
 -- both are words
-zero-fits : (c : tie.After-larger) → SFits w32 c.larger.result
-zero-fits c = fits_of c.larger.type-inv
+zero-fits : (c : tie.After-larger-best0) → SFits w32 c.larger-best0.result
+zero-fits c = fits_of c.larger-best0.type_inv
 
-one_fits : (c : tie.After-larger2) → SFits w32 c.larger2.result
-one_fits c = fits_of c.larger2.type-inv
+one_fits : (c : tie.After-larger-best1) → SFits w32 c.larger-best1.result
+one_fits c = fits_of c.larger-best1.type_inv
 
 -- ---- the needs
 
-mul-had : tie.Need-overflow-mul-had
-mul-had c = search rules
+offset_bounds-margins-k : tie.Need-offset_bounds-margins-k
+offset_bounds-margins-k c = search rules
 
-slice-copy-out-had : tie.Need-slice-copy-out-had
-slice-copy-out-had c = search rules
+slice_copy_out-had : tie.Need-slice_copy_out-had
+slice_copy_out-had c = search rules
 
 had-requires : tie.Need-had-requires
 had-requires c κs = search rules
 
-larger-requires : tie.Need-larger-requires
-larger-requires c κs = search rules
+larger-best0-requires : tie.Need-larger-best0-requires
+larger-best0-requires c κs = search rules
 
-mul-had-2 : tie.Need-overflow-mul-had-2
-mul-had-2 c = search rules
+offset_bounds-extrinsics-k : tie.Need-offset_bounds-extrinsics-k
+offset_bounds-extrinsics-k c = search rules
 
-slice-copy-out-had-2 : tie.Need-slice-copy-out-had-2
-slice-copy-out-had-2 c = search rules
+slice_copy_out-had-2 : tie.Need-slice_copy_out-had-2
+slice_copy_out-had-2 c = search rules
 
 had-requires-2 : tie.Need-had-requires-2
 had-requires-2 c κs = search rules
 
-larger-requires-2 : tie.Need-larger-requires-2
-larger-requires-2 c κs = search rules
+larger-best1-requires : tie.Need-larger-best1-requires
+larger-best1-requires c κs = search rules
 
-settled-requires : tie.Need-settled-requires
-settled-requires c κs =
+settled-p-requires : tie.Need-settled-p-requires
+settled-p-requires c κs =
     let begun = start (zeros c.before) in
     let (in-marks, (in-margins, (in-extrinsics, (told-small, tellable)))) = begun.pre in
-    let can = tellable c.if1.true in
+    let can = tellable c.if-last.true in
     rw (to_z-of_z (zero-fits (zeros c.before)), to_z-of_z (one_fits c.before), to_z-of_z begun.fits.told)
     (rw (zero-raised (zeros c.before), one-raised c.before) (can.zero_small, (can.one_small, (told-small, can.path))))
 
 put-requires : tie.Need-put-requires
 put-requires c κs = search rules
 
-mul-best0 : tie.Need-overflow-mul-best0
-mul-best0 c = search rules
+offset_bounds-margins-k-else-last : tie.Need-offset_bounds-margins-k-else-last
+offset_bounds-margins-k-else-last c = search rules
 
-slice-set-from-best0 : tie.Need-slice-set-from-best0
-slice-set-from-best0 c = search rules
+bounds-margins-k : tie.Need-bounds-margins-k
+bounds-margins-k c = search rules
 
-mul-best1 : tie.Need-overflow-mul-best1
-mul-best1 c = search rules
+offset_bounds-extrinsics-k-else-last : tie.Need-offset_bounds-extrinsics-k-else-last
+offset_bounds-extrinsics-k-else-last c = search rules
 
-slice-set-from-best1 : tie.Need-slice-set-from-best1
-slice-set-from-best1 c = search rules
+bounds-extrinsics-k : tie.Need-bounds-extrinsics-k
+bounds-extrinsics-k c = search rules
 
-same_length : tie.Need-same-length
-same_length c = search rules
+shape_of-marks : tie.Need-shape_of-marks
+shape_of-marks c = search rules
 
-same-length-2 : tie.Need-same-length-2
-same-length-2 c = search rules
+shape_of-margins-then-last : tie.Need-shape_of-margins-then-last
+shape_of-margins-then-last c = search rules
 
-same-length-3 : tie.Need-same-length-3
-same-length-3 c = search rules
+shape_of-extrinsics-then-last : tie.Need-shape_of-extrinsics-then-last
+shape_of-extrinsics-then-last c = search rules
 
 -- the position as it is settled
 position-settled :
-    (c : tie.After-settled)
+    (c : tie.After-settled-p)
     → let args = (start (zeros c.before.before)).args in
-    some c.settled.result
+    some c.settled-p.result
     ≡ position_of args.told
-    (outcome_of (raised args.first (get_or args.margins.now args.k (pos 0)) (held args.zero))
-    (raised args.first (get_or args.extrinsics.now args.k (pos 0)) (held args.one)))
+    (outcome_of (raised args.first (get_or args.margins-1.now args.k (pos 0)) (held args.zero))
+    (raised args.first (get_or args.extrinsics-1.now args.k (pos 0)) (held args.one)))
 position-settled c =
     let two = c.before.before in
     let begun = start (zeros two) in
     rw (zero-raised (zeros two), one-raised two) at
-    (rw (to_z-of_z (zero-fits (zeros two)), to_z-of_z (one_fits two), to_z-of_z begun.fits.told) at c.settled.ensures)
+    (rw (to_z-of_z (zero-fits (zeros two)), to_z-of_z (one_fits two), to_z-of_z begun.fits.told) at c.settled-p.ensures)
 
-returns : tie.Need-returns
-returns c =
+returns-then-last : tie.Need-returns-then-last
+returns-then-last c =
     let put = c.before.before.before.before in
     let settled = put.before.before.before.before in
     let begun = start (zeros settled.before.before) in
     let (in-marks, (in-margins, (in-extrinsics, rest))) = begun.pre in
     let (marks-set, (margins-set, extrinsics-set)) = put.put.ensures in
-    left-told in-marks in-margins in-extrinsics settled.settled.result settled.before.if1.true (position-settled settled) marks-set margins-set extrinsics-set
+    left-told in-marks in-margins in-extrinsics settled.settled-p.result settled.before.if-last.true (position-settled settled) marks-set margins-set extrinsics-set
 
-same-length-4 : tie.Need-same-length-4
-same-length-4 c = search rules
+shape_of-margins-else-last : tie.Need-shape_of-margins-else-last
+shape_of-margins-else-last c = search rules
 
-same-length-5 : tie.Need-same-length-5
-same-length-5 c = search rules
+shape_of-extrinsics-else-last : tie.Need-shape_of-extrinsics-else-last
+shape_of-extrinsics-else-last c = search rules
 
-returns-2 : tie.Need-returns-2
-returns-2 c =
+returns-else-last : tie.Need-returns-else-last
+returns-else-last c =
     let begun = start (zeros c.before) in
     let (in-marks, (in-margins, (in-extrinsics, rest))) = begun.pre in
     rw (to_z-of_z (zero-fits (zeros c.before)), to_z-of_z (one_fits c.before))
-    (left-raised in-marks in-margins in-extrinsics _ _ c.if1.false (zero-raised (zeros c.before)) (one-raised c.before))
+    (left-raised in-marks in-margins in-extrinsics _ _ c.if-last.false (zero-raised (zeros c.before)) (one-raised c.before))
 
-pub gather-at-spec : {M : Type 1} → statement M
-gather-at-spec =
+pub gather_at_spec : {M : Type 1} → statement M
+gather_at_spec =
     tie.close
     (tie.spec
-    mul-had
-    slice-copy-out-had
+    offset_bounds-margins-k
+    slice_copy_out-had
     had-requires
-    larger-requires
-    mul-had-2
-    slice-copy-out-had-2
+    larger-best0-requires
+    offset_bounds-extrinsics-k
+    slice_copy_out-had-2
     had-requires-2
-    larger-requires-2
-    settled-requires
+    larger-best1-requires
+    settled-p-requires
     put-requires
-    mul-best0
-    slice-set-from-best0
-    mul-best1
-    slice-set-from-best1
-    same_length
-    same-length-2
-    same-length-3
-    returns
-    same-length-4
-    same-length-5
-    returns-2)
+    offset_bounds-margins-k-else-last
+    bounds-margins-k
+    offset_bounds-extrinsics-k-else-last
+    bounds-extrinsics-k
+    shape_of-marks
+    shape_of-margins-then-last
+    shape_of-extrinsics-then-last
+    returns-then-last
+    shape_of-margins-else-last
+    shape_of-extrinsics-else-last
+    returns-else-last)

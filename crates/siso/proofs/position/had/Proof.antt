@@ -5,11 +5,11 @@ use Rattle.integers.specs.laws.Linear.{plain}
 use Rattle.siso.proofs.position.had.Statement.{statement}
 use Rattle.siso.proofs.position.had.Tie as tie
 
-returns : tie.Need-returns
-returns c = rw c.if1.true refl
+returns-then-first : tie.Need-returns-then-first
+returns-then-first c = rw c.if-first.true refl
 
-returns-2 : tie.Need-returns-2
-returns-2 c = let fits = c.before.ranges.x in rw c.if1.false (simp plain)
+returns-else-first : tie.Need-returns-else-first
+returns-else-first c = let fits = c.before.ranges.x in rw c.if-first.false (simp plain)
 
-pub had-spec : {M : Type 1} → statement M
-had-spec = tie.close (tie.spec returns returns-2)
+pub had_spec : {M : Type 1} → statement M
+had_spec = tie.close (tie.spec returns-then-first returns-else-first)

@@ -8,22 +8,22 @@ use Rattle.integers.specs.laws.Linear.{fits_of, plain, widen}
 use Rattle.siso.proofs.position.intrinsic.Statement.{statement}
 use Rattle.siso.proofs.position.intrinsic.Tie as tie
 
-own-of-requires : tie.Need-own-of-requires
-own-of-requires c κs = search rules
+own_of-requires : tie.Need-own_of-requires
+own_of-requires c κs = search rules
 
-cast-result : tie.Need-overflow-cast-result
-cast-result c = let a = c.before.ranges.a in simp plain (widen a)
+overflow_cast-result : tie.Need-overflow_cast-result
+overflow_cast-result c = let a = c.before.ranges.a in simp plain (widen a)
 
-returns : tie.Need-returns
-returns c =
+returns-then-sys : tie.Need-returns-then-sys
+returns-then-sys c =
     let start = c.before.before in
     let a = start.ranges.a in
     let y = start.ranges.y in
-    let sum = fits_of c.own_of_lem.type-inv in
-    rw c.before.if1.true (to_z-of_z sum ∙ (simp plain at c.own_of_lem.ensures))
+    let sum = fits_of c.own_of.type_inv in
+    rw c.before.if-sys.true (to_z-of_z sum ∙ (simp plain at c.own_of.ensures))
 
-returns-2 : tie.Need-returns-2
-returns-2 c = let a = c.before.ranges.a in simp (plain, c.if1.false) (sym (+ℤ_idr _))
+returns-else-sys : tie.Need-returns-else-sys
+returns-else-sys c = let a = c.before.ranges.a in simp (plain, c.if-sys.false) (sym (+ℤ_idr _))
 
-pub intrinsic-spec : {M : Type 1} → statement M
-intrinsic-spec = tie.close (tie.spec own-of-requires cast-result returns returns-2)
+pub intrinsic_spec : {M : Type 1} → statement M
+intrinsic_spec = tie.close (tie.spec own_of-requires overflow_cast-result returns-then-sys returns-else-sys)

@@ -9,88 +9,88 @@ use Rattle.trellis.specs.Outcome.{mark, margin}
 use Rattle.siso.proofs.position.put.Statement.{statement}
 use Rattle.siso.proofs.position.put.Tie as tie
 
-mul-e : tie.Need-overflow-mul-e
-mul-e c = search rules
+offset_bounds-extrinsics-k : tie.Need-offset_bounds-extrinsics-k
+offset_bounds-extrinsics-k c = search rules
 
-slice-set-from-e : tie.Need-slice-set-from-e
-slice-set-from-e c = search rules
+bounds-extrinsics-k : tie.Need-bounds-extrinsics-k
+bounds-extrinsics-k c = search rules
 
-enum-known-o : tie.Need-enum-known-o
-enum-known-o c = search rules
+enum_known-o : tie.Need-enum_known-o
+enum_known-o c = search rules
 
-slice-write-marks : tie.Need-slice-write-marks
-slice-write-marks c = search rules
+bounds-marks-k : tie.Need-bounds-marks-k
+bounds-marks-k c = search rules
 
-mul-m : tie.Need-overflow-mul-m
-mul-m c = search rules
+offset_bounds-margins-k : tie.Need-offset_bounds-margins-k
+offset_bounds-margins-k c = search rules
 
-slice-set-from-m : tie.Need-slice-set-from-m
-slice-set-from-m c = search rules
+bounds-margins-k : tie.Need-bounds-margins-k
+bounds-margins-k c = search rules
 
-enum-known-o-2 : tie.Need-enum-known-o-2
-enum-known-o-2 c = search rules
+enum_known-o-in-Forced-1 : tie.Need-enum_known-o-in-Forced-1
+enum_known-o-in-Forced-1 c = search rules
 
-slice-write-marks-2 : tie.Need-slice-write-marks-2
-slice-write-marks-2 c = search rules
+bounds-marks-k-in-Forced : tie.Need-bounds-marks-k-in-Forced
+bounds-marks-k-in-Forced c = search rules
 
-mul-margins : tie.Need-overflow-mul-margins
-mul-margins c = search rules
+offset_bounds-margins-k-in-Forced : tie.Need-offset_bounds-margins-k-in-Forced
+offset_bounds-margins-k-in-Forced c = search rules
 
-slice-set-of-margins : tie.Need-slice-set-of-margins
-slice-set-of-margins c = search rules
+slice_set_of-margins : tie.Need-slice_set_of-margins
+slice_set_of-margins c = search rules
 
-same_length : tie.Need-same-length
-same_length c = search rules
+shape_of-marks-in-Free : tie.Need-shape_of-marks-in-Free
+shape_of-marks-in-Free c = search rules
 
-same-length-2 : tie.Need-same-length-2
-same-length-2 c = search rules
+shape_of-margins-in-Free : tie.Need-shape_of-margins-in-Free
+shape_of-margins-in-Free c = search rules
 
-same-length-3 : tie.Need-same-length-3
-same-length-3 c = search rules
+shape_of-extrinsics-in-Free : tie.Need-shape_of-extrinsics-in-Free
+shape_of-extrinsics-in-Free c = search rules
 
-returns : tie.Need-returns
+returns-in-Free : tie.Need-returns-in-Free
 unfolding mark margin
-returns c =
-    let free = c.before.o.given in
+returns-in-Free c =
+    let free = c.o-1.given in
     let m : SFits w32 free.0.0 = search rules in
-    let e : SFits w32 c.before.before.before.before.args.p.extrinsic = search rules in
+    let e : SFits w32 c.args.p.extrinsic = search rules in
     rw free.1 (refl, (simp plain, simp plain))
 
-same-length-4 : tie.Need-same-length-4
-same-length-4 c = search rules
+shape_of-marks-in-Forced : tie.Need-shape_of-marks-in-Forced
+shape_of-marks-in-Forced c = search rules
 
-same-length-5 : tie.Need-same-length-5
-same-length-5 c = search rules
+shape_of-margins-in-Forced : tie.Need-shape_of-margins-in-Forced
+shape_of-margins-in-Forced c = search rules
 
-same-length-6 : tie.Need-same-length-6
-same-length-6 c = search rules
+shape_of-extrinsics-in-Forced : tie.Need-shape_of-extrinsics-in-Forced
+shape_of-extrinsics-in-Forced c = search rules
 
-returns-2 : tie.Need-returns-2
+returns-in-Forced : tie.Need-returns-in-Forced
 unfolding mark margin
-returns-2 c =
-    let forced = c.before.o2.given in
-    let e : SFits w32 c.before.before.before.before.args.p.extrinsic = search rules in
+returns-in-Forced c =
+    let forced = c.o-in-Forced-1.given in
+    let e : SFits w32 c.args.p.extrinsic = search rules in
     rw forced.1 (refl, (refl, simp plain))
 
 pub put_spec : {M : Type 1} → statement M
 put_spec =
     tie.close
     (tie.spec
-    mul-e
-    slice-set-from-e
-    enum-known-o
-    slice-write-marks
-    mul-m
-    slice-set-from-m
-    enum-known-o-2
-    slice-write-marks-2
-    mul-margins
-    slice-set-of-margins
-    same_length
-    same-length-2
-    same-length-3
-    returns
-    same-length-4
-    same-length-5
-    same-length-6
-    returns-2)
+    offset_bounds-extrinsics-k
+    bounds-extrinsics-k
+    enum_known-o
+    bounds-marks-k
+    offset_bounds-margins-k
+    bounds-margins-k
+    enum_known-o-in-Forced-1
+    bounds-marks-k-in-Forced
+    offset_bounds-margins-k-in-Forced
+    slice_set_of-margins
+    shape_of-marks-in-Free
+    shape_of-margins-in-Free
+    shape_of-extrinsics-in-Free
+    returns-in-Free
+    shape_of-marks-in-Forced
+    shape_of-margins-in-Forced
+    shape_of-extrinsics-in-Forced
+    returns-in-Forced)

@@ -42,23 +42,23 @@ Fitting y x i = SFits w32 i × SFits w32 (half (y -ℤ x)) × SFits w32 (half (y
 small-fitting : (y x i : ℤ) → Within 100000000 y → Within 100000000 x → Within 9214 i → Fitting y x i
 small-fitting y x i = simp ints (omega arith)
 
-abbrev start : tie.After-is-free → tie.Start
+abbrev start : tie.After-is_free-free → tie.Start
 start c = c.before
 
 -- what the test tells
-free-told : (c : tie.After-is-free) → let args = (start c).args in c.is_free.result ≡ (found (held args.zero) && found (held args.one))
+free-told : (c : tie.After-is_free-free) → let args = (start c).args in c.is_free-free.result ≡ (found (held args.zero) && found (held args.one))
 free-told c =
     let zero = (start c).ranges.zero in
     let one = (start c).ranges.one in
-    simp plain at c.is_free.ensures
+    simp plain at c.is_free-free.ensures
 
 -- at a free position both metrics are there, and small
-module _ (c : tie.Else1) where
+module _ (c : tie.Else-not-free) where
   abbrev begun : tie.Start
   begun = start c.before
 
   both : (found (held begun.args.zero) ≡ true) × (found (held begun.args.one) ≡ true)
-  both = and_both _ _ (sym (free-told c.before) ∙ not-false _ c.if1.false)
+  both = and_both _ _ (sym (free-told c.before) ∙ not-false _ c.if-not-free.false-raw)
 
   zero-there : held begun.args.zero ≡ some begun.args.zero
   zero-there = found_some _ both.0
@@ -76,43 +76,43 @@ module _ (c : tie.Else1) where
   fitting = small-fitting _ _ _ one_small zero_small begun.pre.1.1.0
 
 -- the margin is half the difference
-margin_is : (c : tie.After-half-difference) → let args = (begun c.before).args in c.half-difference.result ≡ half (args.one -ℤ args.zero)
+margin_is : (c : tie.After-half_difference-margin) → let args = (begun c.before).args in c.half_difference-margin.result ≡ half (args.one -ℤ args.zero)
 margin_is c =
     let zero-fits = (begun c.before).fits.zero in
     let one_fits = (begun c.before).fits.one in
-    (simp plain at c.half-difference.ensures)
+    (simp plain at c.half_difference-margin.ensures)
     ∙ rw ((inside_is best_limit _).1 (zero_small c.before), (inside_is best_limit _).1 (one_small c.before)) refl
 
-is-free-requires : tie.Need-is-free-requires
-is-free-requires c κs = search rules
+is_free-free-requires : tie.Need-is_free-free-requires
+is_free-free-requires c κs = search rules
 
-mark-of-requires : tie.Need-mark-of-requires
-mark-of-requires c κs = search rules
+mark_of-requires : tie.Need-mark_of-requires
+mark_of-requires c κs = search rules
 
-returns : tie.Need-returns
-returns c =
+returns-then-not-free : tie.Need-returns-then-not-free
+returns-then-not-free c =
     let at = c.before.before in
     let one_fits = (start at).ranges.one in
-    let gone = not-true at.is_free.result c.before.if1.true in
+    let gone = not-true at.is_free-free.result c.before.if-not-free.true-raw in
     let bit = rw gone at (simp plain at c.mark_of.ensures) in
     rw bit (forced-by _ _ (start at).args.intrinsic (sym (free-told at) ∙ gone) (start at).requires.1.1.1)
 
-half-difference-requires : tie.Need-half-difference-requires
-half-difference-requires c κs = search rules
+half_difference-margin-requires : tie.Need-half_difference-margin-requires
+half_difference-margin-requires c κs = search rules
 
-sub-t10 : tie.Need-overflow-sub-t10
-sub-t10 c =
+overflow_sub-result : tie.Need-overflow_sub-result
+overflow_sub-result c =
     let (i, margin, rest) = fitting c.before in
-    let result : SFits w32 c.half-difference.result = rw (margin_is c) margin in
+    let result : SFits w32 c.half_difference-margin.result = rw (margin_is c) margin in
     simp plain (rw (margin_is c) rest)
 
-returns-2 : tie.Need-returns-2
+returns : tie.Need-returns
 unfolding outcome_of position_of extrinsic
-returns-2 c =
+returns c =
     let (i, margin, rest) = fitting c.before in
-    let result : SFits w32 c.half-difference.result = rw (margin_is c) margin in
-    let less : SFits w32 (c.half-difference.result -ℤ (begun c.before).args.intrinsic) = rw (margin_is c) rest in
+    let result : SFits w32 c.half_difference-margin.result = rw (margin_is c) margin in
+    let less : SFits w32 (c.half_difference-margin.result -ℤ (begun c.before).args.intrinsic) = rw (margin_is c) rest in
     rw (zero-there c.before, one-there c.before) (simp plain (rw (margin_is c) refl))
 
-pub settled-spec : {M : Type 1} → statement M
-settled-spec = tie.close (tie.spec is-free-requires mark-of-requires returns half-difference-requires sub-t10 returns-2)
+pub settled_spec : {M : Type 1} → statement M
+settled_spec = tie.close (tie.spec is_free-free-requires mark_of-requires returns-then-not-free half_difference-margin-requires overflow_sub-result returns)

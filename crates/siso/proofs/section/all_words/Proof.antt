@@ -19,13 +19,13 @@ use Rattle.siso.proofs.Words.{value_within, four}
 use Rattle.siso.proofs.section.all_words.Statement.{statement}
 use Rattle.siso.proofs.section.all_words.Tie as tie
 
-abbrev invariant-loop : tie.invariant-loop
+abbrev invariant-loop : tie.invariant-loop-w
 invariant-loop channel g₀ y0 y1 y2 y3 w₀ g w =
     (w ≤ length g₀)
     × (length g ≡ length g₀)
     × ((i : ℕ) → i < w → get_or g i (pos 0) ≡ word_metric (λ l. get_or channel l (pos 0)) i (length channel))
 
-abbrev decreases-loop : tie.decreases-loop
+abbrev decreases-loop : tie.decreases-loop-w
 decreases-loop channel g₀ y0 y1 y2 y3 w₀ g w = length g₀ - w
 
 -- the values that are read
@@ -38,101 +38,101 @@ module _ (start : tie.Start invariant-loop decreases-loop) where
 
 -- what is written
 written :
-    (c : tie.After-word-metric invariant-loop decreases-loop)
+    (c : tie.After-word_metric invariant-loop decreases-loop)
     → let turn = c.before.before in
     let ys = values turn.before.before.before.before.before in
-    to_z w32 (of_z w32 c.word-metric.result) ≡ word_metric (λ l. get_or ys l (pos 0)) turn.loop.w (length ys)
+    to_z w32 (of_z w32 c.word_metric.result) ≡ word_metric (λ l. get_or ys l (pos 0)) turn.loop-w.w (length ys)
 written c =
     let at = c.before.before.before in
     let start = at.before.before.before.before in
-    let y0-fits = at.before.before.before.value.type-inv in
-    let y1-fits = at.before.before.value2.type-inv in
-    let y2-fits = at.before.value3.type-inv in
-    let y3-fits = at.value4.type-inv in
-    let is = simp plain at c.word-metric.ensures in
-    to_z-of_z (fits_of c.word-metric.type-inv)
+    let y0-fits = at.before.before.before.value-y0.type_inv in
+    let y1-fits = at.before.before.value-y1.type_inv in
+    let y2-fits = at.before.value-y2.type_inv in
+    let y3-fits = at.value-y3.type_inv in
+    let is = simp plain at c.word_metric.ensures in
+    to_z-of_z (fits_of c.word_metric.type_inv)
     ∙ is
-    ∙ rw (at.before.before.before.value.ensures, at.before.before.value2.ensures, at.before.value3.ensures, at.value4.ensures)
-    (four (values start) c.before.before.loop.w start.requires.0)
+    ∙ rw (at.before.before.before.value-y0.ensures, at.before.before.value-y1.ensures, at.before.value-y2.ensures, at.value-y3.ensures)
+    (four (values start) c.before.before.loop-w.w start.requires.0)
 
-value-requires : tie.Need-value-requires invariant-loop decreases-loop
-value-requires c κs = search rules
+value-y0-requires : tie.Need-value-y0-requires invariant-loop decreases-loop
+value-y0-requires c κs = search rules
 
-value-requires-2 : tie.Need-value-requires-2 invariant-loop decreases-loop
-value-requires-2 c κs = search rules
+value-y1-requires : tie.Need-value-y1-requires invariant-loop decreases-loop
+value-y1-requires c κs = search rules
 
-value-requires-3 : tie.Need-value-requires-3 invariant-loop decreases-loop
-value-requires-3 c κs = search rules
+value-y2-requires : tie.Need-value-y2-requires invariant-loop decreases-loop
+value-y2-requires c κs = search rules
 
-value-requires-4 : tie.Need-value-requires-4 invariant-loop decreases-loop
-value-requires-4 c κs = search rules
+value-y3-requires : tie.Need-value-y3-requires invariant-loop decreases-loop
+value-y3-requires c κs = search rules
 
-loop-holds : tie.Need-loop-init invariant-loop decreases-loop
-loop-holds c = (omega arith, refl, λ i h. absurd (omega arith))
+loop-w-init : tie.Need-loop-w-init invariant-loop decreases-loop
+loop-w-init c = (omega arith, refl, λ i h. absurd (omega arith))
 
-word-metric-requires : tie.Need-word-metric-requires invariant-loop decreases-loop
-word-metric-requires c κs =
+word_metric-requires : tie.Need-word_metric-requires invariant-loop decreases-loop
+word_metric-requires c κs =
     let at = c.before.before in
     let start = at.before.before.before.before in
-    let y0-fits = at.before.before.before.value.type-inv in
-    let y1-fits = at.before.before.value2.type-inv in
-    let y2-fits = at.before.value3.type-inv in
-    let y3-fits = at.value4.type-inv in
+    let y0-fits = at.before.before.before.value-y0.type_inv in
+    let y1-fits = at.before.before.value-y1.type_inv in
+    let y2-fits = at.before.value-y2.type_inv in
+    let y3-fits = at.value-y3.type_inv in
     simp plain (
-      rw at.before.before.before.value.ensures (within start 0),
+      rw at.before.before.before.value-y0.ensures (within start 0),
       (
-        rw at.before.before.value2.ensures (within start 1),
-        (rw at.before.value3.ensures (within start 2), rw at.value4.ensures (within start 3)),
+        rw at.before.before.value-y1.ensures (within start 1),
+        (rw at.before.value-y2.ensures (within start 2), rw at.value-y3.ensures (within start 3)),
       ),
     )
 
-mul-t8 : tie.Need-overflow-mul-t8 invariant-loop decreases-loop
-mul-t8 c = search rules
+offset_bounds-g-w : tie.Need-offset_bounds-g-w invariant-loop decreases-loop
+offset_bounds-g-w c = search rules
 
-slice-set-from-g : tie.Need-slice-set-from-g invariant-loop decreases-loop
-slice-set-from-g c = search rules
+bounds-g-w : tie.Need-bounds-g-w invariant-loop decreases-loop
+bounds-g-w c = search rules
 
-add-w : tie.Need-overflow-add-w invariant-loop decreases-loop
-add-w c = search rules
+overflow_add-w : tie.Need-overflow_add-w invariant-loop decreases-loop
+overflow_add-w c = search rules
 
-loop-less : tie.Need-loop-smaller invariant-loop decreases-loop
-loop-less c = search rules
+loop-w-smaller : tie.Need-loop-w-smaller invariant-loop decreases-loop
+loop-w-smaller c = search rules
 
-loop-again : tie.Need-loop-preserved invariant-loop decreases-loop
-loop-again c =
+loop-w-preserved : tie.Need-loop-w-preserved invariant-loop decreases-loop
+loop-w-preserved c =
     let turn = c.before.before in
-    let g = turn.loop.g in
-    let w = turn.loop.w in
-    let inside : w < length g = omega (arith, c.before.loop-test.true) in (
+    let g = turn.loop-w.g in
+    let w = turn.loop-w.w in
+    let inside : w < length g = omega (arith, c.before.loop-w-test.true) in (
       omega arith,
-      simp length-set turn.loop.invariant.1,
+      simp length-set turn.loop-w.invariant.1,
       below_more _ w
-          (λ i h. get_or-set_other g w i _ (pos 0) (λ e. omega arith) ∙ turn.loop.invariant.2 i h)
+          (λ i h. get_or-set_other g w i _ (pos 0) (λ e. omega arith) ∙ turn.loop-w.invariant.2 i h)
           (get_or-set_same g w _ (pos 0) inside ∙ written c),
     )
 
-same_length : tie.Need-same-length invariant-loop decreases-loop
-same_length c = c.before.loop.invariant.1
+shape_of-g : tie.Need-shape_of-g invariant-loop decreases-loop
+shape_of-g c = c.before.loop-w.invariant.1
 
 returns : tie.Need-returns invariant-loop decreases-loop
-returns c w h = c.before.loop.invariant.2 w (omega arith)
+returns c w h = c.before.loop-w.invariant.2 w (omega arith)
 
-pub all-words-spec : {M : Type 1} → statement M
-all-words-spec =
+pub all_words_spec : {M : Type 1} → statement M
+all_words_spec =
     tie.close
     (tie.spec
     invariant-loop
     decreases-loop
-    value-requires
-    value-requires-2
-    value-requires-3
-    value-requires-4
-    loop-holds
-    word-metric-requires
-    mul-t8
-    slice-set-from-g
-    add-w
-    loop-less
-    loop-again
-    same_length
+    value-y0-requires
+    value-y1-requires
+    value-y2-requires
+    value-y3-requires
+    loop-w-init
+    word_metric-requires
+    offset_bounds-g-w
+    bounds-g-w
+    overflow_add-w
+    loop-w-smaller
+    loop-w-preserved
+    shape_of-g
     returns)

@@ -29,16 +29,16 @@ sum_is c =
     let start = c.before in
     let a-fits = start.ranges.a in
     let g-fits = start.ranges.g in
-    let signed-fits = c.signed.type-inv in
+    let signed-fits = c.signed.type_inv in
     simp plain (ap (λ z. z +ℤ start.args.g) (simp plain at c.signed.ensures))
 
-add-result : tie.Need-overflow-add-result
-add-result c =
+overflow_add-result : tie.Need-overflow_add-result
+overflow_add-result c =
     let (a_small, g-small) = c.before.requires in
     rw (sum_is c) (within-fits _ (within_sum (signed_within c.before.args.b a_small) g-small))
 
 returns : tie.Need-returns
-returns c = to_z-of_z (add-result c) ∙ sum_is c
+returns c = to_z-of_z (overflow_add-result c) ∙ sum_is c
 
-pub branch-metric-spec : {M : Type 1} → statement M
-branch-metric-spec = tie.close (tie.spec signed-requires add-result returns)
+pub branch_metric_spec : {M : Type 1} → statement M
+branch_metric_spec = tie.close (tie.spec signed-requires overflow_add-result returns)

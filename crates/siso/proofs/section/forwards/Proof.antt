@@ -29,7 +29,7 @@ use Rattle.siso.proofs.Working.{saved_none, saved_more}
 use Rattle.siso.proofs.section.forwards.Statement.{statement}
 use Rattle.siso.proofs.section.forwards.Tie as tie
 
-abbrev invariant-loop : tie.invariant-loop
+abbrev invariant-loop : tie.invariant-loop-s
 invariant-loop next words states channel g a work₀ at m out₀ s₀ work out s =
     (s ≤ states)
     × (length work ≡ length work₀)
@@ -37,24 +37,24 @@ invariant-loop next words states channel g a work₀ at m out₀ s₀ work out s
     × Saved m s at work₀ work
     × ((r : ℕ) → r < 16 → row out r ≡ advance (target_of next) (branch_metric_of words g (to_z w32 a)) s (row m) r)
 
-abbrev decreases-loop : tie.decreases-loop
+abbrev decreases-loop : tie.decreases-loop-s
 decreases-loop next words states channel g a work₀ at m out₀ s₀ work out s = states - s
 
 -- a turn of the loop
-module _ (c : tie.In-loop invariant-loop decreases-loop) where
+module _ (c : tie.In-loop-s invariant-loop decreases-loop) where
   abbrev start : tie.Start invariant-loop decreases-loop
   start = c.before.before.before.before.before.before.before
 
   abbrev s : ℕ
-  s = c.before.loop.s
+  s = c.before.loop-s.s
 
   -- the metrics of the section's words
   abbrev g : List ℤ
-  g = c.before.before.before.word-metrics.new.1.0
+  g = c.before.before.before.word_metrics.new.1.0
 
   branches : Branches start.args.states start.args.next.now start.args.words.now g start.args.a
   branches =
-      let called = c.before.before.before.word-metrics in
+      let called = c.before.before.before.word_metrics in
       ready_branches start.pre.0 called.auto.1.0 called.ensures
 
   abbrev target : ℕ → ℕ → ℕ
@@ -75,233 +75,233 @@ module _ (c : tie.In-loop invariant-loop decreases-loop) where
   to1 = get_or start.args.next.now (2 * s + 1) 0
 
   read0 : Read start.args.states (2 * s) start.args.next.now start.args.words.now g
-  read0 = rw (add-zero (2 * s)) at (branch_read branches s 0 c.loop-test.true (omega arith))
+  read0 = rw (add-zero (2 * s)) at (branch_read branches s 0 c.loop-s-test.true (omega arith))
 
   read1 : Read start.args.states (2 * s + 1) start.args.next.now start.args.words.now g
-  read1 = branch_read branches s 1 c.loop-test.true (omega arith)
+  read1 = branch_read branches s 1 c.loop-s-test.true (omega arith)
 
   bounded : (b : ℕ) → b < 2 → Within 100000000 (branch-metric s b)
   bounded b bit =
       let a-fits = start.fits.a in
-      simp plain (within_more (omega arith) (branch_small branches s b c.loop-test.true bit))
+      simp plain (within_more (omega arith) (branch_small branches s b c.loop-s-test.true bit))
 
 -- where the state's word was read, from where the metric of either branch is known
-abbrev zero_of : tie.After-metric-at invariant-loop decreases-loop → tie.After-x invariant-loop decreases-loop
+abbrev zero_of : tie.After-metric_at invariant-loop decreases-loop → tie.After-x-1 invariant-loop decreases-loop
 zero_of c = c.before.before.before.before
 
-abbrev one_of : tie.After-metric-at2 invariant-loop decreases-loop → tie.After-x invariant-loop decreases-loop
+abbrev one_of : tie.After-metric_at-in-loop-s invariant-loop decreases-loop → tie.After-x-1 invariant-loop decreases-loop
 one_of c = c.before.before.before.before.before.before.before
 
 -- the word, and the metrics of the two branches
 word-is :
-    (c : tie.After-x invariant-loop decreases-loop)
+    (c : tie.After-x-1 invariant-loop decreases-loop)
     → let t = c.before in to_z w32 (of_z w32 (get_or (start t).args.t7 (s t) (pos 0))) ≡ get_or (start t).args.t7 (s t) (pos 0)
-word-is c = to_z-of_z (fits_of c.x.given)
+word-is c = to_z-of_z (fits_of c.x-1.given)
 
 zero-metric :
-    (c : tie.After-metric-at invariant-loop decreases-loop)
-    → let t = (zero_of c).before in to_z w32 (of_z w32 c.metric-at.result) ≡ branch-metric t (s t) 0
-zero-metric c = rw add-zero (to_z-of_z (fits_of c.metric-at.type-inv) ∙ c.metric-at.ensures)
+    (c : tie.After-metric_at invariant-loop decreases-loop)
+    → let t = (zero_of c).before in to_z w32 (of_z w32 c.metric_at.result) ≡ branch-metric t (s t) 0
+zero-metric c = rw add-zero (to_z-of_z (fits_of c.metric_at.type_inv) ∙ c.metric_at.ensures)
 
 one-metric :
-    (c : tie.After-metric-at2 invariant-loop decreases-loop)
-    → let t = (one_of c).before in to_z w32 (of_z w32 c.metric-at2.result) ≡ branch-metric t (s t) 1
-one-metric c = to_z-of_z (fits_of c.metric-at2.type-inv) ∙ c.metric-at2.ensures
+    (c : tie.After-metric_at-in-loop-s invariant-loop decreases-loop)
+    → let t = (one_of c).before in to_z w32 (of_z w32 c.metric_at-in-loop-s.result) ≡ branch-metric t (s t) 1
+one-metric c = to_z-of_z (fits_of c.metric_at-in-loop-s.type_inv) ∙ c.metric_at-in-loop-s.ensures
 
 -- what each branch brings
-zero-brings : (c : tie.After-plus invariant-loop decreases-loop) → held (to_z w32 (of_z w32 c.plus.result)) ≡ brought (zero_of c.before).before 0
-zero-brings c = kept c.plus.result c.plus.type-inv (rw (word-is (zero_of c.before), zero-metric c.before) at c.plus.ensures)
+zero-brings : (c : tie.After-plus-y0 invariant-loop decreases-loop) → held (to_z w32 (of_z w32 c.plus-y0.result)) ≡ brought (zero_of c.before).before 0
+zero-brings c = kept c.plus-y0.result c.plus-y0.type_inv (rw (word-is (zero_of c.before), zero-metric c.before) at c.plus-y0.ensures)
 
-one-brings : (c : tie.After-plus2 invariant-loop decreases-loop) → held (to_z w32 (of_z w32 c.plus2.result)) ≡ brought (one_of c.before).before 1
-one-brings c = kept c.plus2.result c.plus2.type-inv (rw (word-is (one_of c.before), one-metric c.before) at c.plus2.ensures)
+one-brings : (c : tie.After-plus-y1 invariant-loop decreases-loop) → held (to_z w32 (of_z w32 c.plus-y1.result)) ≡ brought (one_of c.before).before 1
+one-brings c = kept c.plus-y1.result c.plus-y1.type_inv (rw (word-is (one_of c.before), one-metric c.before) at c.plus-y1.ensures)
 
 -- and the metric where it leads, with it; the second branch finds what the first has left
 abbrev left : tie.After-larger invariant-loop decreases-loop → List ℤ
-left c = let t = (one_of c.before.before.before).before in set t.before.loop.out (to0 t) (to_z w32 (of_z w32 c.larger.result))
+left c = let t = (one_of c.before.before.before).before in set t.before.loop-s.out (to0 t) (to_z w32 (of_z w32 c.larger.result))
 
 zero-arrives :
     (c : tie.After-larger invariant-loop decreases-loop)
     → let t = (one_of c.before.before.before).before in
-    held (to_z w32 (of_z w32 c.larger.result)) ≡ larger (row t.before.loop.out (to0 t)) (brought t 0)
+    held (to_z w32 (of_z w32 c.larger.result)) ≡ larger (row t.before.loop-s.out (to0 t)) (brought t 0)
 zero-arrives c =
     let t = (one_of c.before.before.before).before in
-    let had = kept (get_or t.before.loop.out (to0 t) (pos 0)) c.before.had0.given refl in
-    kept c.larger.result c.larger.type-inv (c.larger.ensures ∙ ap₂ larger had (zero-brings c.before.before.before.before.before))
+    let had = kept (get_or t.before.loop-s.out (to0 t) (pos 0)) c.before.had0-1.given refl in
+    kept c.larger.result c.larger.type_inv (c.larger.ensures ∙ ap₂ larger had (zero-brings c.before.before.before.before.before))
 
 one-arrives :
-    (c : tie.After-larger2 invariant-loop decreases-loop)
+    (c : tie.After-larger-in-loop-s invariant-loop decreases-loop)
     → let t = (one_of c.before.before.before.before.before).before in
-    held (to_z w32 (of_z w32 c.larger2.result)) ≡ larger (row (left c.before.before) (to1 t)) (brought t 1)
+    held (to_z w32 (of_z w32 c.larger-in-loop-s.result)) ≡ larger (row (left c.before.before) (to1 t)) (brought t 1)
 one-arrives c =
     let t = (one_of c.before.before.before.before.before).before in
-    let had = kept (get_or (left c.before.before) (to1 t) (pos 0)) c.before.had1.given refl in
-    kept c.larger2.result c.larger2.type-inv (c.larger2.ensures ∙ ap₂ larger had (one-brings c.before.before.before.before))
+    let had = kept (get_or (left c.before.before) (to1 t) (pos 0)) c.before.had1-1.given refl in
+    kept c.larger-in-loop-s.result c.larger-in-loop-s.type_inv (c.larger-in-loop-s.ensures ∙ ap₂ larger had (one-brings c.before.before.before.before))
 
-word-metrics-requires : tie.Need-word-metrics-requires invariant-loop decreases-loop
-word-metrics-requires c κs = let ready = c.before.before.before.requires.0 in (ready.outputs, (ready.values, ready.enough))
+word_metrics-requires : tie.Need-word_metrics-requires invariant-loop decreases-loop
+word_metrics-requires c κs = let ready = c.before.before.before.requires.0 in (ready.outputs, (ready.values, ready.enough))
 
-loop-holds : tie.Need-loop-init invariant-loop decreases-loop
-loop-holds c = (omega arith, refl, refl, saved_none, λ r h. unreached 16 r h ∙ sym (advance_none _ _ _ r))
+loop-s-init : tie.Need-loop-s-init invariant-loop decreases-loop
+loop-s-init c = (omega arith, refl, refl, saved_none, λ r h. unreached 16 r h ∙ sym (advance_none _ _ _ r))
 
-mul-i : tie.Need-overflow-mul-i invariant-loop decreases-loop
-mul-i c = omega (arith, read0 c)
+overflow_mul-i : tie.Need-overflow_mul-i invariant-loop decreases-loop
+overflow_mul-i c = omega (arith, read0 c)
 
-mul-x : tie.Need-overflow-mul-x invariant-loop decreases-loop
-mul-x c = omega (arith, read0 c)
+offset_bounds-m-s : tie.Need-offset_bounds-m-s invariant-loop decreases-loop
+offset_bounds-m-s c = omega (arith, read0 c)
 
-array-copy-out-x : tie.Need-array-copy-out-x invariant-loop decreases-loop
-array-copy-out-x c = omega (arith, read0 c)
+bounds-m-s : tie.Need-bounds-m-s invariant-loop decreases-loop
+bounds-m-s c = omega (arith, read0 c)
 
-add-x : tie.Need-overflow-add-x invariant-loop decreases-loop
-add-x c = search rules
+overflow_add-x : tie.Need-overflow_add-x invariant-loop decreases-loop
+overflow_add-x c = search rules
 
-mul-x-2 : tie.Need-overflow-mul-x-2 invariant-loop decreases-loop
-mul-x-2 c = search rules
+offset_bounds-work-at : tie.Need-offset_bounds-work-at invariant-loop decreases-loop
+offset_bounds-work-at c = search rules
 
-slice-set-from-x : tie.Need-slice-set-from-x invariant-loop decreases-loop
-slice-set-from-x c = search rules
+bounds-work-at : tie.Need-bounds-work-at invariant-loop decreases-loop
+bounds-work-at c = search rules
 
-shared-slice-read-t0 : tie.Need-shared-slice-read-t0 invariant-loop decreases-loop
-shared-slice-read-t0 c = omega (arith, read0 c.before.before)
+bounds-next-i : tie.Need-bounds-next-i invariant-loop decreases-loop
+bounds-next-i c = omega (arith, read0 c.before.before)
 
-cast-t0 : tie.Need-overflow-cast-t0 invariant-loop decreases-loop
-cast-t0 c = omega (arith, read0 c.before.before)
+overflow_cast-t0 : tie.Need-overflow_cast-t0 invariant-loop decreases-loop
+overflow_cast-t0 c = omega (arith, read0 c.before.before)
 
-add-t1 : tie.Need-overflow-add-t1 invariant-loop decreases-loop
-add-t1 c = omega (arith, read1 c.before.before)
+overflow_add-t1 : tie.Need-overflow_add-t1 invariant-loop decreases-loop
+overflow_add-t1 c = omega (arith, read1 c.before.before)
 
-shared-slice-read-t1 : tie.Need-shared-slice-read-t1 invariant-loop decreases-loop
-shared-slice-read-t1 c = omega (arith, read1 c.before.before.before)
+bounds-next-i-in-loop-s : tie.Need-bounds-next-i-in-loop-s invariant-loop decreases-loop
+bounds-next-i-in-loop-s c = omega (arith, read1 c.before.before.before)
 
-cast-t1 : tie.Need-overflow-cast-t1 invariant-loop decreases-loop
-cast-t1 c = omega (arith, read1 c.before.before.before)
+overflow_cast-t1 : tie.Need-overflow_cast-t1 invariant-loop decreases-loop
+overflow_cast-t1 c = omega (arith, read1 c.before.before.before)
 
-metric-at-requires : tie.Need-metric-at-requires invariant-loop decreases-loop
-metric-at-requires c κs =
+metric_at-requires : tie.Need-metric_at-requires invariant-loop decreases-loop
+metric_at-requires c κs =
     let t = c.before.before.before.before in
     let read = read0 t in
     rw (to_z-of_z (start t).ranges.a) (read.in_words, (read.known, (read.small, (start t).requires.0.apriori)))
 
-plus-requires : tie.Need-plus-requires invariant-loop decreases-loop
-plus-requires c κs =
+plus-y0-requires : tie.Need-plus-y0-requires invariant-loop decreases-loop
+plus-y0-requires c κs =
     let t = (zero_of c).before in
-    rw (word-is (zero_of c), zero-metric c) (state_small (start t).pre.1.0 _ t.loop-test.taken, bounded t 0 (omega arith))
+    rw (word-is (zero_of c), zero-metric c) (state_small (start t).pre.1.0 _ t.loop-s-test.taken, bounded t 0 (omega arith))
 
-add-metric-at : tie.Need-overflow-add-metric-at invariant-loop decreases-loop
-add-metric-at c = omega (arith, read1 c.before.before.before.before.before.before.before)
+overflow_add-i : tie.Need-overflow_add-i invariant-loop decreases-loop
+overflow_add-i c = omega (arith, read1 c.before.before.before.before.before.before.before)
 
-metric-at-requires-2 : tie.Need-metric-at-requires-2 invariant-loop decreases-loop
-metric-at-requires-2 c κs =
+metric_at-requires-in-loop-s : tie.Need-metric_at-requires-in-loop-s invariant-loop decreases-loop
+metric_at-requires-in-loop-s c κs =
     let t = c.before.before.before.before.before.before.before in
     let read = read1 t in
     rw (to_z-of_z (start t).ranges.a) (read.in_words, (read.known, (read.small, (start t).requires.0.apriori)))
 
-plus-requires-2 : tie.Need-plus-requires-2 invariant-loop decreases-loop
-plus-requires-2 c κs =
+plus-y1-requires : tie.Need-plus-y1-requires invariant-loop decreases-loop
+plus-y1-requires c κs =
     let t = (one_of c).before in
-    rw (word-is (one_of c), one-metric c) (state_small (start t).pre.1.0 _ t.loop-test.taken, bounded t 1 (omega arith))
+    rw (word-is (one_of c), one-metric c) (state_small (start t).pre.1.0 _ t.loop-s-test.taken, bounded t 1 (omega arith))
 
-mul-had0 : tie.Need-overflow-mul-had0 invariant-loop decreases-loop
-mul-had0 c = omega (arith, read0 (one_of c.before).before)
+offset_bounds-out-t0 : tie.Need-offset_bounds-out-t0 invariant-loop decreases-loop
+offset_bounds-out-t0 c = omega (arith, read0 (one_of c.before).before)
 
-array-copy-out-had0 : tie.Need-array-copy-out-had0 invariant-loop decreases-loop
-array-copy-out-had0 c = omega (arith, read0 (one_of c.before).before)
+bounds-out-t0 : tie.Need-bounds-out-t0 invariant-loop decreases-loop
+bounds-out-t0 c = omega (arith, read0 (one_of c.before).before)
 
 larger-requires : tie.Need-larger-requires invariant-loop decreases-loop
 larger-requires c κs = search rules
 
-mul-out : tie.Need-overflow-mul-out invariant-loop decreases-loop
-mul-out c = omega (arith, read0 (one_of c.before.before.before).before)
+offset_bounds-out-t0-in-loop-s : tie.Need-offset_bounds-out-t0-in-loop-s invariant-loop decreases-loop
+offset_bounds-out-t0-in-loop-s c = omega (arith, read0 (one_of c.before.before.before).before)
 
-array-set-from-out : tie.Need-array-set-from-out invariant-loop decreases-loop
-array-set-from-out c = omega (arith, read0 (one_of c.before.before.before).before)
+bounds-out-t0-in-loop-s : tie.Need-bounds-out-t0-in-loop-s invariant-loop decreases-loop
+bounds-out-t0-in-loop-s c = omega (arith, read0 (one_of c.before.before.before).before)
 
-mul-had1 : tie.Need-overflow-mul-had1 invariant-loop decreases-loop
-mul-had1 c = omega (arith, read1 (one_of c.before.before.before).before)
+offset_bounds-out-t1 : tie.Need-offset_bounds-out-t1 invariant-loop decreases-loop
+offset_bounds-out-t1 c = omega (arith, read1 (one_of c.before.before.before).before)
 
-array-copy-out-had1 : tie.Need-array-copy-out-had1 invariant-loop decreases-loop
-array-copy-out-had1 c = omega (arith, read1 (one_of c.before.before.before).before)
+bounds-out-t1 : tie.Need-bounds-out-t1 invariant-loop decreases-loop
+bounds-out-t1 c = omega (arith, read1 (one_of c.before.before.before).before)
 
-larger-requires-2 : tie.Need-larger-requires-2 invariant-loop decreases-loop
-larger-requires-2 c κs = search rules
+larger-requires-in-loop-s : tie.Need-larger-requires-in-loop-s invariant-loop decreases-loop
+larger-requires-in-loop-s c κs = search rules
 
-mul-out-2 : tie.Need-overflow-mul-out-2 invariant-loop decreases-loop
-mul-out-2 c = omega (arith, read1 (one_of c.before.before.before.before.before).before)
+offset_bounds-out-t1-in-loop-s : tie.Need-offset_bounds-out-t1-in-loop-s invariant-loop decreases-loop
+offset_bounds-out-t1-in-loop-s c = omega (arith, read1 (one_of c.before.before.before.before.before).before)
 
-array-set-from-out-2 : tie.Need-array-set-from-out-2 invariant-loop decreases-loop
-array-set-from-out-2 c = omega (arith, read1 (one_of c.before.before.before.before.before).before)
+bounds-out-t1-in-loop-s : tie.Need-bounds-out-t1-in-loop-s invariant-loop decreases-loop
+bounds-out-t1-in-loop-s c = omega (arith, read1 (one_of c.before.before.before.before.before).before)
 
-add-s : tie.Need-overflow-add-s invariant-loop decreases-loop
-add-s c = search rules
+overflow_add-s : tie.Need-overflow_add-s invariant-loop decreases-loop
+overflow_add-s c = search rules
 
-loop-less : tie.Need-loop-smaller invariant-loop decreases-loop
-loop-less c = search rules
+loop-s-smaller : tie.Need-loop-s-smaller invariant-loop decreases-loop
+loop-s-smaller c = search rules
 
-loop-again : tie.Need-loop-preserved invariant-loop decreases-loop
-loop-again c =
+loop-s-preserved : tie.Need-loop-s-preserved invariant-loop decreases-loop
+loop-s-preserved c =
     let read = one_of c.before.before.before.before.before in
     let t = read.before in
     let at = t.before in (
-      omega (arith, t.loop-test.taken),
-      simp length-set at.loop.inv.1,
-      simp length-set at.loop.inv.2,
-      rw (word-is read) (saved_more (omega arith) at.loop.inv.3),
-      λ r h. advanced (target t) (branch-metric t) (row (start t).args.t7) at.loop.out (s t) r (to0 t) (to1 t) _ _ (at.loop.inv.4 r h)
+      omega (arith, t.loop-s-test.taken),
+      simp length-set at.loop-s.inv.1,
+      simp length-set at.loop-s.inv.2,
+      rw (word-is read) (saved_more (omega arith) at.loop-s.inv.3),
+      λ r h. advanced (target t) (branch-metric t) (row (start t).args.t7) at.loop-s.out (s t) r (to0 t) (to1 t) _ _ (at.loop-s.inv.4 r h)
           (rw add-zero) (omega (arith, read0 t)) (zero-arrives c.before.before)
           refl (simp length-set (omega (arith, read1 t))) (one-arrives c),
     )
 
-same_length : tie.Need-same-length invariant-loop decreases-loop
-same_length c = c.before.before.before.word-metrics.auto.1.0
+shape_of-g : tie.Need-shape_of-g invariant-loop decreases-loop
+shape_of-g c = c.before.before.before.word_metrics.auto.1.0
 
-same-length-2 : tie.Need-same-length-2 invariant-loop decreases-loop
-same-length-2 c = search rules
+shape_of-work : tie.Need-shape_of-work invariant-loop decreases-loop
+shape_of-work c = search rules
 
 returns : tie.Need-returns invariant-loop decreases-loop
 returns c =
-    let called = c.before.before.before.word-metrics in
+    let called = c.before.before.before.word_metrics in
     let start = c.before.before.before.before.before.before.before in
     let a-fits = start.ranges.a in
-    let end : c.before.loop.s ≡ start.args.states = omega arith in
-    (called.ensures, ((λ r h. simp plain at (rw end at (c.before.loop.invariant.4 r h))), rw end at c.before.loop.invariant.3))
+    let end : c.before.loop-s.s ≡ start.args.states = omega arith in
+    (called.ensures, ((λ r h. simp plain at (rw end at (c.before.loop-s.invariant.4 r h))), rw end at c.before.loop-s.invariant.3))
 
-pub forwards-spec : {M : Type 1} → statement M
-forwards-spec =
+pub forwards_spec : {M : Type 1} → statement M
+forwards_spec =
     tie.close
     (tie.spec
     invariant-loop
     decreases-loop
-    word-metrics-requires
-    loop-holds
-    mul-i
-    mul-x
-    array-copy-out-x
-    add-x
-    mul-x-2
-    slice-set-from-x
-    shared-slice-read-t0
-    cast-t0
-    add-t1
-    shared-slice-read-t1
-    cast-t1
-    metric-at-requires
-    plus-requires
-    add-metric-at
-    metric-at-requires-2
-    plus-requires-2
-    mul-had0
-    array-copy-out-had0
+    word_metrics-requires
+    loop-s-init
+    overflow_mul-i
+    offset_bounds-m-s
+    bounds-m-s
+    overflow_add-x
+    offset_bounds-work-at
+    bounds-work-at
+    bounds-next-i
+    overflow_cast-t0
+    overflow_add-t1
+    bounds-next-i-in-loop-s
+    overflow_cast-t1
+    metric_at-requires
+    plus-y0-requires
+    overflow_add-i
+    metric_at-requires-in-loop-s
+    plus-y1-requires
+    offset_bounds-out-t0
+    bounds-out-t0
     larger-requires
-    mul-out
-    array-set-from-out
-    mul-had1
-    array-copy-out-had1
-    larger-requires-2
-    mul-out-2
-    array-set-from-out-2
-    add-s
-    loop-less
-    loop-again
-    same_length
-    same-length-2
+    offset_bounds-out-t0-in-loop-s
+    bounds-out-t0-in-loop-s
+    offset_bounds-out-t1
+    bounds-out-t1
+    larger-requires-in-loop-s
+    offset_bounds-out-t1-in-loop-s
+    bounds-out-t1-in-loop-s
+    overflow_add-s
+    loop-s-smaller
+    loop-s-preserved
+    shape_of-g
+    shape_of-work
     returns)

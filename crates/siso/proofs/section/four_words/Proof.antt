@@ -48,59 +48,59 @@ module _ (start : tie.Start) where
       let y1-fits = start.fits.y1 in
       to_z-of_z (fits_of fits) ∙ (simp plain at is) ∙ four values w (omega arith)
 
-word-metric-requires : tie.Need-word-metric-requires
-word-metric-requires c κs = within c
+word_metric-requires : tie.Need-word_metric-requires
+word_metric-requires c κs = within c
 
-slice-set-from-g : tie.Need-slice-set-from-g
-slice-set-from-g c = search rules
+bounds-g-0 : tie.Need-bounds-g-0
+bounds-g-0 c = search rules
 
-word-metric-requires-2 : tie.Need-word-metric-requires-2
-word-metric-requires-2 c κs = within c.before
+word_metric-requires-2 : tie.Need-word_metric-requires-2
+word_metric-requires-2 c κs = within c.before
 
-slice-set-from-g-2 : tie.Need-slice-set-from-g-2
-slice-set-from-g-2 c = search rules
+bounds-g-1 : tie.Need-bounds-g-1
+bounds-g-1 c = search rules
 
-word-metric-requires-3 : tie.Need-word-metric-requires-3
-word-metric-requires-3 c κs = within c.before.before
+word_metric-requires-3 : tie.Need-word_metric-requires-3
+word_metric-requires-3 c κs = within c.before.before
 
-slice-set-from-g-3 : tie.Need-slice-set-from-g-3
-slice-set-from-g-3 c = search rules
+bounds-g-2 : tie.Need-bounds-g-2
+bounds-g-2 c = search rules
 
-word-metric-requires-4 : tie.Need-word-metric-requires-4
-word-metric-requires-4 c κs = within c.before.before.before
+word_metric-requires-4 : tie.Need-word_metric-requires-4
+word_metric-requires-4 c κs = within c.before.before.before
 
-slice-set-from-g-4 : tie.Need-slice-set-from-g-4
-slice-set-from-g-4 c = search rules
+bounds-g-3 : tie.Need-bounds-g-3
+bounds-g-3 c = search rules
 
-same_length : tie.Need-same-length
-same_length c = search rules
+shape_of-g : tie.Need-shape_of-g
+shape_of-g c = search rules
 
 returns : tie.Need-returns
 returns c =
     let start = c.before.before.before.before in
-    let first = c.before.before.before.word-metric in
-    let second = c.before.before.word-metric2 in
-    let third = c.before.word-metric3 in
-    let fourth = c.word-metric4 in
+    let first = c.before.before.before.word_metric in
+    let second = c.before.before.word_metric-2 in
+    let third = c.before.word_metric-3 in
+    let fourth = c.word_metric-4 in
     rw (four_written start.args.g.now _ _ _ _ start.requires.1.1)
     (four_told
     (metric start)
-    (written start 0 first.result first.type-inv first.ensures)
-    (written start 1 second.result second.type-inv second.ensures)
-    (written start 2 third.result third.type-inv third.ensures)
-    (written start 3 fourth.result fourth.type-inv fourth.ensures))
+    (written start 0 first.result first.type_inv first.ensures)
+    (written start 1 second.result second.type_inv second.ensures)
+    (written start 2 third.result third.type_inv third.ensures)
+    (written start 3 fourth.result fourth.type_inv fourth.ensures))
 
-pub four-words-spec : {M : Type 1} → statement M
-four-words-spec =
+pub four_words_spec : {M : Type 1} → statement M
+four_words_spec =
     tie.close
     (tie.spec
-    word-metric-requires
-    slice-set-from-g
-    word-metric-requires-2
-    slice-set-from-g-2
-    word-metric-requires-3
-    slice-set-from-g-3
-    word-metric-requires-4
-    slice-set-from-g-4
-    same_length
+    word_metric-requires
+    bounds-g-0
+    word_metric-requires-2
+    bounds-g-1
+    word_metric-requires-3
+    bounds-g-2
+    word_metric-requires-4
+    bounds-g-3
+    shape_of-g
     returns)

@@ -6,21 +6,21 @@ use Rattle.trellis.specs.Table.{output}
 use Rattle.siso.proofs.section.output.Statement.{statement}
 use Rattle.siso.proofs.section.output.Tie as tie
 
-returns : tie.Need-returns
+returns-in-0 : tie.Need-returns-in-0
 unfolding output
-returns c = rw c.match.keys1 (omega arith)
+returns-in-0 c = rw c.in-0.is (omega arith)
 
-returns-2 : tie.Need-returns-2
+returns-in-1 : tie.Need-returns-in-1
 unfolding output
-returns-2 c = rw c.match.keys2 (omega arith)
+returns-in-1 c = rw c.in-1.is (omega arith)
 
-returns-3 : tie.Need-returns-3
+returns-in-2 : tie.Need-returns-in-2
 unfolding output
-returns-3 c = rw c.match.keys3 (omega arith)
+returns-in-2 c = rw c.in-2.is (omega arith)
 
-returns-4 : tie.Need-returns-4
+returns-in_default : tie.Need-returns-in_default
 unfolding output
-returns-4 c = let e : c.before.args.l ≡ 3 = omega arith in rw e (omega arith)
+returns-in_default c = let e : c.args.l ≡ 3 = omega arith in rw e (omega arith)
 
-pub output-spec : {M : Type 1} → statement M
-output-spec = tie.close (tie.spec returns returns-2 returns-3 returns-4)
+pub output_spec : {M : Type 1} → statement M
+output_spec = tie.close (tie.spec returns-in-0 returns-in-1 returns-in-2 returns-in_default)

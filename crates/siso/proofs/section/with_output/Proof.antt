@@ -40,16 +40,16 @@ module _ (c : tie.After-signed) where
   sum_is =
       let g-fits = start.fits.g in
       let y-fits = start.fits.y in
-      let part-fits = c.signed.type-inv in
+      let part-fits = c.signed.type_inv in
       simp plain (ap (λ z. start.args.g +ℤ z) (simp plain at (rw c.before.output.ensures at c.signed.ensures)))
 
-add-result : tie.Need-overflow-add-result
-add-result c =
+overflow_add-result : tie.Need-overflow_add-result
+overflow_add-result c =
     let (few, (g-small, y-small)) = (start c).requires in
     rw (sum_is c) (sum_fits _ _ g-small (signed_within (output _ _) y-small))
 
 returns : tie.Need-returns
-returns c = to_z-of_z (add-result c) ∙ sum_is c
+returns c = to_z-of_z (overflow_add-result c) ∙ sum_is c
 
-pub with-output-spec : {M : Type 1} → statement M
-with-output-spec = tie.close (tie.spec output-requires signed-requires add-result returns)
+pub with_output_spec : {M : Type 1} → statement M
+with_output_spec = tie.close (tie.spec output-requires signed-requires overflow_add-result returns)

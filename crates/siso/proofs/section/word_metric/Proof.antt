@@ -25,53 +25,53 @@ part_within start l h =
     let (a, (b, (c, d))) = start.requires in
     within_more (omega arith) (word_within _ l (λ i _. four_within a b c d i))
 
-with-output-requires : tie.Need-with-output-requires
-with-output-requires c κs = let y-fits = c.ranges.y0 in (omega arith, (within_zero _, simp plain c.requires.0))
+with_output-one-requires : tie.Need-with_output-one-requires
+with_output-one-requires c κs = let y-fits = c.ranges.y0 in (omega arith, (within_zero _, simp plain c.requires.0))
 
-one_is : (c : tie.After-with-output) → c.with-output.result ≡ part c.before 1
+one_is : (c : tie.After-with_output-one) → c.with_output-one.result ≡ part c.before 1
 unfolding word_metric
-one_is c = let y-fits = c.before.ranges.y0 in simp plain at c.with-output.ensures
+one_is c = let y-fits = c.before.ranges.y0 in simp plain at c.with_output-one.ensures
 
-with-output-requires-2 : tie.Need-with-output-requires-2
-with-output-requires-2 c κs =
+with_output-two-requires : tie.Need-with_output-two-requires
+with_output-two-requires c κs =
     let y-fits = c.before.ranges.y1 in
-    let g-fits = c.with-output.type-inv in
+    let g-fits = c.with_output-one.type_inv in
     (omega arith, simp plain (rw (one_is c) (part_within c.before 1 (omega arith)), c.before.requires.1.0))
 
-two_is : (c : tie.After-with-output2) → c.with-output2.result ≡ part c.before.before 2
+two_is : (c : tie.After-with_output-two) → c.with_output-two.result ≡ part c.before.before 2
 unfolding word_metric
 two_is c =
     let y-fits = c.before.before.ranges.y1 in
-    let g-fits = c.before.with-output.type-inv in
-    (simp plain at c.with-output2.ensures) ∙ rw (one_is c.before)
+    let g-fits = c.before.with_output-one.type_inv in
+    (simp plain at c.with_output-two.ensures) ∙ rw (one_is c.before)
 
-with-output-requires-3 : tie.Need-with-output-requires-3
-with-output-requires-3 c κs =
+with_output-three-requires : tie.Need-with_output-three-requires
+with_output-three-requires c κs =
     let y-fits = c.before.before.ranges.y2 in
-    let g-fits = c.with-output2.type-inv in
+    let g-fits = c.with_output-two.type_inv in
     (omega arith, simp plain (rw (two_is c) (part_within c.before.before 2 (omega arith)), c.before.before.requires.1.1.0))
 
-three-is : (c : tie.After-with-output3) → c.with-output3.result ≡ part c.before.before.before 3
+three-is : (c : tie.After-with_output-three) → c.with_output-three.result ≡ part c.before.before.before 3
 unfolding word_metric
 three-is c =
     let y-fits = c.before.before.before.ranges.y2 in
-    let g-fits = c.before.with-output2.type-inv in
-    (simp plain at c.with-output3.ensures) ∙ rw (two_is c.before)
+    let g-fits = c.before.with_output-two.type_inv in
+    (simp plain at c.with_output-three.ensures) ∙ rw (two_is c.before)
 
-with-output-requires-4 : tie.Need-with-output-requires-4
-with-output-requires-4 c κs =
+with_output-requires : tie.Need-with_output-requires
+with_output-requires c κs =
     let y-fits = c.before.before.before.ranges.y3 in
-    let g-fits = c.with-output3.type-inv in
+    let g-fits = c.with_output-three.type_inv in
     (omega arith, simp plain (rw (three-is c) (part_within c.before.before.before 3 (omega arith)), c.before.before.before.requires.1.1.1))
 
 returns : tie.Need-returns
 unfolding word_metric
 returns c =
     let y-fits = c.before.before.before.before.ranges.y3 in
-    let g-fits = c.before.with-output3.type-inv in
-    to_z-of_z (fits_of c.with-output4.type-inv) ∙ (simp plain at c.with-output4.ensures) ∙ rw (three-is c.before)
+    let g-fits = c.before.with_output-three.type_inv in
+    to_z-of_z (fits_of c.with_output.type_inv) ∙ (simp plain at c.with_output.ensures) ∙ rw (three-is c.before)
 
-pub word-metric-spec : {M : Type 1} → statement M
-word-metric-spec =
+pub word_metric_spec : {M : Type 1} → statement M
+word_metric_spec =
     tie.close
-    (tie.spec with-output-requires with-output-requires-2 with-output-requires-3 with-output-requires-4 returns)
+    (tie.spec with_output-one-requires with_output-two-requires with_output-three-requires with_output-requires returns)

@@ -13,64 +13,64 @@ use Rattle.siso.proofs.Words.{two_metrics}
 use Rattle.siso.proofs.section.word_metrics.Statement.{statement}
 use Rattle.siso.proofs.section.word_metrics.Tie as tie
 
-first_fits : (c : tie.After-four-words-arg) → SFits w16 (get_or c.before.before.args.channel.now 0 (pos 0))
-first_fits c = fits_of c.four-words-arg.given
+first_fits : (c : tie.After-four_words-arg-1) → SFits w16 (get_or c.before.before.args.channel.now 0 (pos 0))
+first_fits c = fits_of c.four_words-arg-1.given
 
-second_fits : (c : tie.After-four-words-arg2) → SFits w16 (get_or c.before.before.before.args.channel.now 1 (pos 0))
-second_fits c = fits_of c.four-words-arg2.given
+second_fits : (c : tie.After-four_words-arg-then-channel-eq2-1) → SFits w16 (get_or c.before.before.before.args.channel.now 1 (pos 0))
+second_fits c = fits_of c.four_words-arg-then-channel-eq2-1.given
 
-shared-slice-copy-out-four-words : tie.Need-shared-slice-copy-out-four-words
-shared-slice-copy-out-four-words c = search rules
+bounds-channel-0 : tie.Need-bounds-channel-0
+bounds-channel-0 c = search rules
 
-cast-four-words : tie.Need-overflow-cast-four-words
-cast-four-words c = let y-fits = first_fits c in simp plain (widen y-fits)
+overflow_cast-channel : tie.Need-overflow_cast-channel
+overflow_cast-channel c = let y-fits = first_fits c in simp plain (widen y-fits)
 
-shared-slice-copy-out-four-words-2 : tie.Need-shared-slice-copy-out-four-words-2
-shared-slice-copy-out-four-words-2 c = search rules
+bounds-channel-1 : tie.Need-bounds-channel-1
+bounds-channel-1 c = search rules
 
-cast-four-words-2 : tie.Need-overflow-cast-four-words-2
-cast-four-words-2 c = let y-fits = second_fits c in simp plain (widen y-fits)
+overflow_cast-channel-then-channel-eq2 : tie.Need-overflow_cast-channel-then-channel-eq2
+overflow_cast-channel-then-channel-eq2 c = let y-fits = second_fits c in simp plain (widen y-fits)
 
-four-words-requires : tie.Need-four-words-requires
-four-words-requires c κs =
-    let two = c.before.before.before.if1.true in
+four_words-requires : tie.Need-four_words-requires
+four_words-requires c κs =
+    let two = c.before.before.before.if-channel-eq2.true in
     let start = c.before.before.before.before in
     rw (read_back (first_fits c.before.before), read_back (second_fits c.before))
     (start.requires.1.0 0 (omega arith), (start.requires.1.0 1 (omega arith), start.requires.1.1 ∙ ap (λ (m : ℕ). 2 ^ m) two))
 
-all-words-requires : tie.Need-all-words-requires
-all-words-requires c κs = let start = c.before.before in (start.requires.0, start.requires.1.0)
+all_words-requires : tie.Need-all_words-requires
+all_words-requires c κs = let start = c.before.before in (start.requires.0, start.requires.1.0)
 
-same_length : tie.Need-same-length
-same_length c = c.before.four-words.auto.1.1.0
+shape_of-g-then-channel-eq2 : tie.Need-shape_of-g-then-channel-eq2
+shape_of-g-then-channel-eq2 c = c.before.four_words.auto.1.1.0
 
-returns : tie.Need-returns
-returns c =
+returns-then-channel-eq2 : tie.Need-returns-then-channel-eq2
+returns-then-channel-eq2 c =
     let read = c.before.before.before in
     let start = read.before.before.before in
     two_metrics
     start.args.channel.now
-    c.before.four-words.new.1.1.0
-    read.before.before.if1.true
-    (rw (read_back (first_fits read.before), read_back (second_fits read)) at c.before.four-words.ensures)
+    c.before.four_words.new.1.1.0
+    read.before.before.if-channel-eq2.true
+    (rw (read_back (first_fits read.before), read_back (second_fits read)) at c.before.four_words.ensures)
 
-same-length-2 : tie.Need-same-length-2
-same-length-2 c = c.before.all_words.auto.1.0
+shape_of-g-else-channel-eq2 : tie.Need-shape_of-g-else-channel-eq2
+shape_of-g-else-channel-eq2 c = c.before.all_words.auto.1.0
 
-returns-2 : tie.Need-returns-2
-returns-2 c = c.before.all_words.ensures
+returns-else-channel-eq2 : tie.Need-returns-else-channel-eq2
+returns-else-channel-eq2 c = c.before.all_words.ensures
 
-pub word-metrics-spec : {M : Type 1} → statement M
-word-metrics-spec =
+pub word_metrics_spec : {M : Type 1} → statement M
+word_metrics_spec =
     tie.close
     (tie.spec
-    shared-slice-copy-out-four-words
-    cast-four-words
-    shared-slice-copy-out-four-words-2
-    cast-four-words-2
-    four-words-requires
-    all-words-requires
-    same_length
-    returns
-    same-length-2
-    returns-2)
+    bounds-channel-0
+    overflow_cast-channel
+    bounds-channel-1
+    overflow_cast-channel-then-channel-eq2
+    four_words-requires
+    all_words-requires
+    shape_of-g-then-channel-eq2
+    returns-then-channel-eq2
+    shape_of-g-else-channel-eq2
+    returns-else-channel-eq2)

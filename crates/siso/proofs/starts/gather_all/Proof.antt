@@ -22,7 +22,7 @@ use Rattle.siso.proofs.Gathering.{reached_more}
 use Rattle.siso.proofs.starts.gather_all.Statement.{statement}
 use Rattle.siso.proofs.starts.gather_all.Tie as tie
 
-abbrev invariant-loop : tie.invariant-loop
+abbrev invariant-loop : tie.invariant-loop-start
 invariant-loop format next words channel apriori marks₀ margins₀ extrinsics₀ g₀ work₀ count any₀ start₀ marks margins extrinsics g work any start =
     (start ≤ count)
     × (length g ≡ 2 ^ format.outputs)
@@ -30,7 +30,7 @@ invariant-loop format next words channel apriori marks₀ margins₀ extrinsics�
     × Stage (pass_table format next words) (values_of channel apriori) format.end format.sections start any marks margins extrinsics
     × (any ≡ false → ListsKept marks₀ margins₀ extrinsics₀ marks margins extrinsics)
 
-abbrev decreases-loop : tie.decreases-loop
+abbrev decreases-loop : tie.decreases-loop-start
 decreases-loop format next words channel apriori marks₀ margins₀ extrinsics₀ g₀ work₀ count any₀ start₀ marks margins extrinsics g work any start =
     count - start
 
@@ -56,27 +56,27 @@ none_before f a true e none-now =
 
 kept_on :
     {ms ms' ms'' : List ℕ} {gs gs' gs'' es es' es'' : List ℤ} → ListsKept ms gs es ms' gs' es' → ListsKept ms' gs' es' ms'' gs'' es'' → ListsKept ms gs es ms'' gs'' es''
-kept_on a b = record { marks = b.marks ∙ a.marks; margins = b.margins ∙ a.margins; extrinsics = b.extrinsics ∙ a.extrinsics }
+kept_on a b = record { marks = b.marks-1 ∙ a.marks-1; margins = b.margins-1 ∙ a.margins-1; extrinsics = b.extrinsics-1 ∙ a.extrinsics-1 }
 
 -- ---- names for what is known at the loop's head
 
-abbrev begun : tie.At-loop invariant-loop decreases-loop → tie.Start invariant-loop decreases-loop
+abbrev begun : tie.At-loop-start invariant-loop decreases-loop → tie.Start invariant-loop decreases-loop
 begun at = at.before.before.before.before.before
 
-pass : (at : tie.At-loop invariant-loop decreases-loop)
+pass : (at : tie.At-loop-start invariant-loop decreases-loop)
     → let args = (begun at).args in Pass (pass_table args.format args.next.now args.words.now) args.format.sections (values_of args.channel.now args.apriori.now)
 pass at = (begun at).requires.0
 
-is-start : (c : tie.In-loop invariant-loop decreases-loop) → c.before.loop.start < starts (begun c.before).args.format.states (begun c.before).args.format.end
-is-start c = rw c.before.before.starts.ensures at c.loop-test.true
+is-start : (c : tie.In-loop-start invariant-loop decreases-loop) → c.before.loop-start.start < starts (begun c.before).args.format.states (begun c.before).args.format.end
+is-start c = rw c.before.before.starts-count.ensures at c.loop-start-test.true
 
 -- ---- the needs
 
-starts-requires : tie.Need-starts-requires invariant-loop decreases-loop
-starts-requires c κs = search rules
+starts-count-requires : tie.Need-starts-count-requires invariant-loop decreases-loop
+starts-count-requires c κs = search rules
 
-loop-holds : tie.Need-loop-init invariant-loop decreases-loop
-loop-holds c =
+loop-start-init : tie.Need-loop-start-init invariant-loop decreases-loop
+loop-start-init c =
     let (pass, (words-many, (work_long, (marks_long, (margins_long, extrinsics_long))))) = c.before.before.before.before.requires in (
       omega arith,
       words-many,
@@ -85,79 +85,79 @@ loop-holds c =
       λ q. record { marks = refl; margins = refl; extrinsics = refl },
     )
 
-gather-from-requires : tie.Need-gather-from-requires invariant-loop decreases-loop
-gather-from-requires c κs =
+gather_from-path-requires : tie.Need-gather_from-path-requires invariant-loop decreases-loop
+gather_from-path-requires c κs =
     let turn = c.before.before.before.before.before in
     let at = turn.before in
-    (pass at, (is-start turn, (at.loop.invariant.1, (at.loop.invariant.2, at.loop.invariant.3))))
+    (pass at, (is-start turn, (at.loop-start.invariant.1, (at.loop-start.invariant.2, at.loop-start.invariant.3))))
 
 -- what a turn has done, and where it stands
-abbrev gathered : tie.After-work invariant-loop decreases-loop → tie.After-gather-from invariant-loop decreases-loop
+abbrev gathered : tie.After-work-1 invariant-loop decreases-loop → tie.After-gather_from-path invariant-loop decreases-loop
 gathered c = c.before.before.before.before.before.before
 
-abbrev turn-of : tie.After-work invariant-loop decreases-loop → tie.In-loop invariant-loop decreases-loop
+abbrev turn-of : tie.After-work-1 invariant-loop decreases-loop → tie.In-loop-start invariant-loop decreases-loop
 turn-of c = (gathered c).before.before.before.before.before.before
 
-add_start : tie.Need-overflow-add-start invariant-loop decreases-loop
-add_start c =
+overflow_add-start : tie.Need-overflow_add-start invariant-loop decreases-loop
+overflow_add-start c =
     let turn = turn-of c in
     let p = pass turn.before in
     omega (arith, start_below p _ (is-start turn), (table_limits p).most_states)
 
-loop-less : tie.Need-loop-smaller invariant-loop decreases-loop
-loop-less c = omega (arith, (turn-of c).loop-test.true)
+loop-start-smaller : tie.Need-loop-start-smaller invariant-loop decreases-loop
+loop-start-smaller c = omega (arith, (turn-of c).loop-test.true)
 
-loop-again : tie.Need-loop-preserved invariant-loop decreases-loop
-loop-again c =
+loop-start-preserved : tie.Need-loop-start-preserved invariant-loop decreases-loop
+loop-start-preserved c =
     let more = (gathered c).gather-from in
     let turn = turn-of c in
-    let inv = turn.before.loop.inv in (
-      omega (arith, turn.loop-test.taken),
+    let inv = turn.before.loop-start.inv in (
+      omega (arith, turn.loop-start-test.taken),
       more.kept.1.1.1.1.1.1.1.1.1.1.0 ∙ inv.1,
       more.kept.1.1.1.1.1.1.1.1.1.1.1.0 ∙ inv.2,
       more.ensures.0,
       λ none-now.
           kept_on
-          (inv.4 (none_before _ _ turn.before.loop.any inv.3.reached (sym more.ensures.0.reached ∙ none-now)))
+          (inv.4 (none_before _ _ turn.before.loop-start.any inv.3.reached (sym more.ensures.0.reached ∙ none-now)))
           (more.ensures.1 none-now),
     )
 
-same_length : tie.Need-same-length invariant-loop decreases-loop
-same_length c = let at = c.before in at.loop.invariant.3.marks_long ∙ sym (begun at).requires.1.1.1.0
+shape_of-marks : tie.Need-shape_of-marks invariant-loop decreases-loop
+shape_of-marks c = let at = c.before in at.loop-start.invariant.3.marks_long ∙ sym (begun at).requires.1.1.1.0
 
-same-length-2 : tie.Need-same-length-2 invariant-loop decreases-loop
-same-length-2 c = let at = c.before in at.loop.invariant.3.margins_long ∙ sym (begun at).requires.1.1.1.1.0
+shape_of-margins : tie.Need-shape_of-margins invariant-loop decreases-loop
+shape_of-margins c = let at = c.before in at.loop-start.invariant.3.margins_long ∙ sym (begun at).requires.1.1.1.1.0
 
-same-length-3 : tie.Need-same-length-3 invariant-loop decreases-loop
-same-length-3 c = let at = c.before in at.loop.invariant.3.extrinsics_long ∙ sym (begun at).requires.1.1.1.1.1
+shape_of-extrinsics : tie.Need-shape_of-extrinsics invariant-loop decreases-loop
+shape_of-extrinsics c = let at = c.before in at.loop-start.invariant.3.extrinsics_long ∙ sym (begun at).requires.1.1.1.1.1
 
-same-length-4 : tie.Need-same-length-4 invariant-loop decreases-loop
-same-length-4 c = let at = c.before in at.loop.invariant.1 ∙ sym (begun at).requires.1.0
+shape_of-g : tie.Need-shape_of-g invariant-loop decreases-loop
+shape_of-g c = let at = c.before in at.loop-start.invariant.1 ∙ sym (begun at).requires.1.0
 
-same-length-5 : tie.Need-same-length-5 invariant-loop decreases-loop
-same-length-5 c = let at = c.before in at.loop.invariant.2 ∙ sym (begun at).requires.1.1.0
+shape_of-work : tie.Need-shape_of-work invariant-loop decreases-loop
+shape_of-work c = let at = c.before in at.loop-start.invariant.2 ∙ sym (begun at).requires.1.1.0
 
 returns : tie.Need-returns invariant-loop decreases-loop
 returns c =
     let at = c.before in
-    let e : at.loop.start ≡ at.before.starts.result = omega (arith, c.loop-test.false) in
-    (rw (e, at.before.starts.ensures) at at.loop.invariant.3, at.loop.invariant.4)
+    let e : at.loop-start.start ≡ at.before.starts-count.result = omega (arith, c.loop-start-test.false) in
+    (rw (e, at.before.starts-count.ensures) at at.loop-start.invariant.3, at.loop-start.invariant.4)
 
-pub gather-all-spec : {M : Type 1} → statement M
-gather-all-spec =
+pub gather_all_spec : {M : Type 1} → statement M
+gather_all_spec =
     tie.close
     (tie.spec
     invariant-loop
     decreases-loop
-    starts-requires
-    loop-holds
-    gather-from-requires
-    add_start
-    loop-less
-    loop-again
-    same_length
-    same-length-2
-    same-length-3
-    same-length-4
-    same-length-5
+    starts-count-requires
+    loop-start-init
+    gather_from-path-requires
+    overflow_add-start
+    loop-start-smaller
+    loop-start-preserved
+    shape_of-marks
+    shape_of-margins
+    shape_of-extrinsics
+    shape_of-g
+    shape_of-work
     returns)

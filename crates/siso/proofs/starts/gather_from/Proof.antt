@@ -41,35 +41,35 @@ module _ {t : Table} {n : ℕ} {v : Values} (p : Pass t n v) (end : End) (a : �
 
 -- ---- names for what is known
 
-abbrev begun : tie.After-forward → tie.Start
+abbrev begun : tie.After-forward-path → tie.Start
 begun f = f.before.before.before.before.before.before
 
-abbrev table : tie.After-forward → Table
+abbrev table : tie.After-forward-path → Table
 table f = let args = (begun f).args in pass_table args.format args.next.now args.words.now
 
-abbrev values : tie.After-forward → Values
+abbrev values : tie.After-forward-path → Values
 values f = let args = (begun f).args in values_of args.channel.now args.apriori.now
 
-pass : (f : tie.After-forward) → Pass (table f) (begun f).args.format.sections (values f)
+pass : (f : tie.After-forward-path) → Pass (table f) (begun f).args.format.sections (values f)
 pass f = (begun f).requires.0
 
-is-start : (f : tie.After-forward) → (begun f).args.start < starts (begun f).args.format.states (begun f).args.format.end
+is-start : (f : tie.After-forward-path) → (begun f).args.start < starts (begun f).args.format.states (begun f).args.format.end
 is-start f = (begun f).requires.1.0
 
 stage :
-    (f : tie.After-forward)
+    (f : tie.After-forward-path)
     → let args = (begun f).args in
-    Stage (table f) (values f) args.format.end args.format.sections args.start args.any args.marks.now args.margins.now args.extrinsics.now
+    Stage (table f) (values f) args.format.end args.format.sections args.start args.any args.marks-1.now args.margins-1.now args.extrinsics-1.now
 stage f = (begun f).requires.1.1.1.1
 
 -- the lists that the forward sweep was lent have their lengths still
-words_length : (f : tie.After-forward) → length f.forward.new.1.1.1.1.1.1.0 ≡ 2 ^ (begun f).args.format.outputs
-words_length f = f.forward.auto.1.1.1.1.1.1.0 ∙ (begun f).requires.1.1.0
+words_length : (f : tie.After-forward-path) → length f.forward-path.new.1.1.1.1.1.1.0 ≡ 2 ^ (begun f).args.format.outputs
+words_length f = f.forward-path.auto.1.1.1.1.1.1.0 ∙ (begun f).requires.1.1.0
 
-work-length : (f : tie.After-forward) → length f.forward.new.1.1.1.1.1.1.1.0 ≡ ((begun f).args.format.sections + 1) * (begun f).args.format.states
-work-length f = f.forward.auto.1.1.1.1.1.1.1.0 ∙ (begun f).requires.1.1.1.0
+work-length : (f : tie.After-forward-path) → length f.forward-path.new.1.1.1.1.1.1.1.0 ≡ ((begun f).args.format.sections + 1) * (begun f).args.format.states
+work-length f = f.forward-path.auto.1.1.1.1.1.1.1.0 ∙ (begun f).requires.1.1.1.0
 
-abbrev forwarded : tie.After-either → tie.After-forward
+abbrev forwarded : tie.After-either → tie.After-forward-path
 forwarded e = e.before.before.before
 
 -- whether one of the states up to this one has a path
@@ -80,32 +80,32 @@ some-path :
     e.either.result ≡ found (over (args.start + 1) (reach_from (table f) (values f) args.format.end args.format.sections))
 some-path e =
     let f = forwarded e in
-    e.either.ensures ∙ ap₂ ◌||◌ (stage f).reached f.forward.ensures.1 ∙ sym (reached_more _ (begun f).args.start)
+    e.either.ensures ∙ ap₂ ◌||◌ (stage f).reached f.forward-path.ensures.1 ∙ sym (reached_more _ (begun f).args.start)
 
 -- ---- no path yet
 
-forward-requires : tie.Need-forward-requires
-forward-requires c κs =
+forward-path-requires : tie.Need-forward-path-requires
+forward-path-requires c κs =
     let (pass, (is-start, (words-many, (work_long, stage)))) = c.before.before.before.before.before.requires in
     (pass, (is-start, (words-many, work_long)))
 
 either-requires : tie.Need-either-requires
 either-requires c κs = search rules
 
-same_length : tie.Need-same-length
-same_length c = search rules
+shape_of-g-then-not-either : tie.Need-shape_of-g-then-not-either
+shape_of-g-then-not-either c = search rules
 
-same-length-2 : tie.Need-same-length-2
-same-length-2 c = search rules
+shape_of-work-then-not-either : tie.Need-shape_of-work-then-not-either
+shape_of-work-then-not-either c = search rules
 
-returns : tie.Need-returns
-returns c =
+returns-then-not-either : tie.Need-returns-then-not-either
+returns-then-not-either c =
     let lists = stage (forwarded c.before) in (
       record {
         marks_long = lists.marks_long;
         margins_long = lists.margins_long;
         extrinsics_long = lists.extrinsics_long;
-        reached = sym (not-true _ c.if1.true) ∙ some-path c.before;
+        reached = sym (not-true _ c.if-not-either.true-raw) ∙ some-path c.before;
         bests = λ q l. absurd (false≢true q);
         written = λ q l. absurd (false≢true q);
       },
@@ -114,8 +114,8 @@ returns c =
 
 -- ---- a path
 
-add-last : tie.Need-overflow-add-last
-add-last c =
+overflow_add-last : tie.Need-overflow_add-last
+overflow_add-last c =
     let f = forwarded c.before in
     omega (arith, start_below (pass f) _ (is-start f), (table_limits (pass f)).most_states)
 
@@ -127,7 +127,7 @@ gather-requires c κs =
     let counted = c.before.before.before.before.before in
     let e = counted.before.before in
     let f = forwarded e in
-    let there : e.either.result ≡ true = not-false _ counted.before.if1.false in (
+    let there : e.either.result ≡ true = not-false _ counted.before.if-not-either.false-raw in (
       pass f,
       (
         is-start f,
@@ -136,7 +136,7 @@ gather-requires c κs =
           (
             work-length f,
             (
-              f.forward.ensures.0,
+              f.forward-path.ensures.0,
               (
                 (stage f).marks_long,
                 (
@@ -150,23 +150,23 @@ gather-requires c κs =
       ),
     )
 
-same-length-3 : tie.Need-same-length-3
-same-length-3 c = search rules
+shape_of-marks : tie.Need-shape_of-marks
+shape_of-marks c = search rules
 
-same-length-4 : tie.Need-same-length-4
-same-length-4 c = search rules
+shape_of-margins : tie.Need-shape_of-margins
+shape_of-margins c = search rules
 
-same-length-5 : tie.Need-same-length-5
-same-length-5 c = search rules
+shape_of-extrinsics : tie.Need-shape_of-extrinsics
+shape_of-extrinsics c = search rules
 
-same-length-6 : tie.Need-same-length-6
-same-length-6 c = search rules
+shape_of-g : tie.Need-shape_of-g
+shape_of-g c = search rules
 
-same-length-7 : tie.Need-same-length-7
-same-length-7 c = search rules
+shape_of-work : tie.Need-shape_of-work
+shape_of-work c = search rules
 
-returns-2 : tie.Need-returns-2
-returns-2 c =
+returns : tie.Need-returns
+returns c =
     let g = c.before.before.before.before.before in
     let counted = g.before.before.before.before.before.before in
     let e = counted.before.before in
@@ -176,28 +176,28 @@ returns-2 c =
         marks_long = g.gather.auto.1.1.1.1.1.1.1.1.0 ∙ (stage f).marks_long;
         margins_long = g.gather.auto.1.1.1.1.1.1.1.1.1.0 ∙ (stage f).margins_long;
         extrinsics_long = g.gather.auto.1.1.1.1.1.1.1.1.1.1.0 ∙ (stage f).extrinsics_long;
-        reached = sym (not-false _ counted.before.if1.false) ∙ some-path e;
+        reached = sym (not-false _ counted.before.if-not-either.false-raw) ∙ some-path e;
         bests = λ q l. g.gather.ensures.0 (ne_eqb ((begun f).args.start + 1) counted.starts.result (λ same. omega (arith, same, count)));
         written = λ q same. g.gather.ensures.1 (eq-eqb _ _ (same ∙ sym count));
       },
       λ q. absurd (false≢true (sym q)),
     )
 
-pub gather-from-spec : {M : Type 1} → statement M
-gather-from-spec =
+pub gather_from_spec : {M : Type 1} → statement M
+gather_from_spec =
     tie.close
     (tie.spec
-    forward-requires
+    forward-path-requires
     either-requires
-    same_length
-    same-length-2
-    returns
-    add-last
+    shape_of-g-then-not-either
+    shape_of-work-then-not-either
+    returns-then-not-either
+    overflow_add-last
     starts-requires
     gather-requires
-    same-length-3
-    same-length-4
-    same-length-5
-    same-length-6
-    same-length-7
-    returns-2)
+    shape_of-marks
+    shape_of-margins
+    shape_of-extrinsics
+    shape_of-g
+    shape_of-work
+    returns)
