@@ -27,23 +27,23 @@ module _ (c : tie.Else-m-eq-NOTHING) where
   is-there = held_some _ c.if-m-eq-NOTHING.false
 
   sum_small : Within 200000000 (start.args.m +ℤ start.args.g)
-  sum_small = within_sum (small_known (rw is-there at start.pre.0)) start.pre.1
+  sum_small = within_sum (small_known (rw is-there at start.requires.0)) start.requires.1
 
 overflow_add-result : tie.Need-overflow_add-result
 overflow_add-result c =
-    let m-fits = c.before.ranges.m in
-    let g-fits = c.before.ranges.g in
+    let m-fits = c.ranges.m in
+    let g-fits = c.ranges.g in
     simp plain (within-fits _ (sum_small c))
 
 returns-then-m-eq-NOTHING : tie.Need-returns-then-m-eq-NOTHING
 unfolding plus
-returns-then-m-eq-NOTHING c = rw (held_none c.before.args.m c.if-m-eq-NOTHING.true)
+returns-then-m-eq-NOTHING c = rw (held_none c.args.m c.if-m-eq-NOTHING.true)
 
 returns-else-m-eq-NOTHING : tie.Need-returns-else-m-eq-NOTHING
 unfolding plus
 returns-else-m-eq-NOTHING c =
-    let m-fits = c.before.ranges.m in
-    let g-fits = c.before.ranges.g in
+    let m-fits = c.ranges.m in
+    let g-fits = c.ranges.g in
     let sum_fits = within-fits _ (sum_small c) in
     simp plain (rw (is-there c) (held_small _ (sum_small c)))
 

@@ -27,12 +27,12 @@ module _ (c : tie.Else-f-eq-NOTHING) where
   is-there = held_some _ c.if-f-eq-NOTHING.false
 
   sum_small : Within 50323451 (start.args.f +ℤ start.args.g)
-  sum_small = within_sum (small_known (rw is-there at start.pre.0)) start.pre.1.0
+  sum_small = within_sum (small_known (rw is-there at start.requires.0)) start.requires.1.0
 
 overflow_add-f : tie.Need-overflow_add-f
 overflow_add-f c =
-    let f-fits = c.before.ranges.f in
-    let g-fits = c.before.ranges.g in
+    let f-fits = c.ranges.f in
+    let g-fits = c.ranges.g in
     simp plain (within-fits _ (sum_small c))
 
 plus-requires : tie.Need-plus-requires
@@ -46,7 +46,7 @@ plus-requires c κs =
 
 returns-then-f-eq-NOTHING : tie.Need-returns-then-f-eq-NOTHING
 unfolding plus
-returns-then-f-eq-NOTHING c = rw (held_none c.before.args.f c.if-f-eq-NOTHING.true)
+returns-then-f-eq-NOTHING c = rw (held_none c.args.f c.if-f-eq-NOTHING.true)
 
 returns-else-f-eq-NOTHING : tie.Need-returns-else-f-eq-NOTHING
 unfolding plus

@@ -63,8 +63,8 @@ clear-requires : tie.Need-clear-requires
 clear-requires c κs = search rules
 
 -- the working list is cleared
-zeros : (c : tie.After-clear) → c.clear.new.0 ≡ replicate (length (begun (swept c)).args.work.now) (pos 0)
-zeros c = c.clear.ensures ∙ ap (λ n. replicate n (pos 0)) (swept c).gather-all.auto.1.1.1.1.1.1.1.1.1.0
+zeros : (c : tie.After-clear) → c.clear.new.work ≡ replicate (length (begun (swept c)).args.work.now) (pos 0)
+zeros c = c.clear.ensures ∙ ap (λ n. replicate n (pos 0)) (swept c).gather_all-path.auto.work
 
 shape_of-marks-then-not-path : tie.Need-shape_of-marks-then-not-path
 shape_of-marks-then-not-path c = search rules
@@ -84,7 +84,7 @@ returns-then-not-path c =
     let all = swept cleared in
     let none-there = not-true _ c.if-not-path.true-raw in
     let lists = all.gather_all-path.ensures.1 none-there in
-    settled_none _ _ (told all ∙ ap not none-there) lists.marks-1 lists.margins-1 lists.extrinsics-1 (zeros cleared)
+    settled_none _ _ (told all ∙ ap not none-there) lists.marks lists.margins lists.extrinsics (zeros cleared)
 
 shape_of-marks : tie.Need-shape_of-marks
 shape_of-marks c = search rules

@@ -63,21 +63,21 @@ abbrev zeros : tie.After-larger-best1 → tie.After-larger-best0
 zeros c = c.before.before.before
 
 zero-raised :
-    (c : tie.After-larger-best0) → let args = (start c).args in held c.larger-best0.result ≡ raised args.first (get_or args.margins-1.now args.k (pos 0)) (held args.zero)
+    (c : tie.After-larger-best0) → let args = (start c).args in held c.larger-best0.result ≡ raised args.first (get_or args.margins.now args.k (pos 0)) (held args.zero)
 zero-raised c =
-    let x_fits : SFits w32 (get_or (start c).args.margins.now (start c).args.k (pos 0)) = fits_of c.before.before.had-arg-1.given in
-    let had-fits : SFits w32 c.before.had.result = fits_of c.before.had.type_inv in
+    let x_fits : SFits w32 (get_or (start c).args.margins.now (start c).args.k (pos 0)) = fits_of c.had-arg-1.given in
+    let had-fits : SFits w32 c.had.result = fits_of c.had.type_inv in
     (rw (to_z-of_z had-fits, to_z-of_z (start c).ranges.zero) at c.larger-best0.ensures)
-    ∙ ap (λ m. larger m (held (start c).args.zero)) (c.before.had.ensures ∙ ap (before (start c).args.first) (to_z-of_z x_fits))
+    ∙ ap (λ m. larger m (held (start c).args.zero)) (c.had.ensures ∙ ap (before (start c).args.first) (to_z-of_z x_fits))
 
 one-raised :
-    (c : tie.After-larger-best1) → let args = (start (zeros c)).args in held c.larger-best1.result ≡ raised args.first (get_or args.extrinsics-1.now args.k (pos 0)) (held args.one)
+    (c : tie.After-larger-best1) → let args = (start (zeros c)).args in held c.larger-best1.result ≡ raised args.first (get_or args.extrinsics.now args.k (pos 0)) (held args.one)
 one-raised c =
     let begun = start (zeros c) in
-    let x_fits : SFits w32 (get_or begun.args.extrinsics.now begun.args.k (pos 0)) = fits_of c.before.before.had-arg-2-1.given in
-    let had-fits : SFits w32 c.before.had-2.result = fits_of c.before.had-2.type_inv in
-    (rw (to_z-of_z had-fits, to_z-of_z begun.fits.one) at c.larger-best1.ensures)
-    ∙ ap (λ m. larger m (held begun.args.one)) (c.before.had-2.ensures ∙ ap (before begun.args.first) (to_z-of_z x_fits))
+    let x_fits : SFits w32 (get_or begun.args.extrinsics.now begun.args.k (pos 0)) = fits_of c.had-arg-2-1.given in
+    let had-fits : SFits w32 c.had-2.result = fits_of c.had-2.type_inv in
+    (rw (to_z-of_z had-fits, to_z-of_z begun.ranges.one) at c.larger-best1.ensures)
+    ∙ ap (λ m. larger m (held begun.args.one)) (c.had-2.ensures ∙ ap (before begun.args.first) (to_z-of_z x_fits))
 
 -- both are words
 zero-fits : (c : tie.After-larger-best0) → SFits w32 c.larger-best0.result
@@ -115,9 +115,9 @@ larger-best1-requires c κs = search rules
 settled-p-requires : tie.Need-settled-p-requires
 settled-p-requires c κs =
     let begun = start (zeros c.before) in
-    let (in-marks, (in-margins, (in-extrinsics, (told-small, tellable)))) = begun.pre in
+    let (in-marks, (in-margins, (in-extrinsics, (told-small, tellable)))) = begun.requires in
     let can = tellable c.if-last.true in
-    rw (to_z-of_z (zero-fits (zeros c.before)), to_z-of_z (one_fits c.before), to_z-of_z begun.fits.told)
+    rw (to_z-of_z (zero-fits (zeros c.before)), to_z-of_z (one_fits c.before), to_z-of_z begun.ranges.told)
     (rw (zero-raised (zeros c.before), one-raised c.before) (can.zero_small, (can.one_small, (told-small, can.path))))
 
 put-requires : tie.Need-put-requires
@@ -150,22 +150,22 @@ position-settled :
     → let args = (start (zeros c.before.before)).args in
     some c.settled-p.result
     ≡ position_of args.told
-    (outcome_of (raised args.first (get_or args.margins-1.now args.k (pos 0)) (held args.zero))
-    (raised args.first (get_or args.extrinsics-1.now args.k (pos 0)) (held args.one)))
+    (outcome_of (raised args.first (get_or args.margins.now args.k (pos 0)) (held args.zero))
+    (raised args.first (get_or args.extrinsics.now args.k (pos 0)) (held args.one)))
 position-settled c =
     let two = c.before.before in
     let begun = start (zeros two) in
     rw (zero-raised (zeros two), one-raised two) at
-    (rw (to_z-of_z (zero-fits (zeros two)), to_z-of_z (one_fits two), to_z-of_z begun.fits.told) at c.settled-p.ensures)
+    (rw (to_z-of_z (zero-fits (zeros two)), to_z-of_z (one_fits two), to_z-of_z begun.ranges.told) at c.settled-p.ensures)
 
 returns-then-last : tie.Need-returns-then-last
 returns-then-last c =
     let put = c.before.before.before.before in
     let settled = put.before.before.before.before in
     let begun = start (zeros settled.before.before) in
-    let (in-marks, (in-margins, (in-extrinsics, rest))) = begun.pre in
+    let (in-marks, (in-margins, (in-extrinsics, rest))) = begun.requires in
     let (marks-set, (margins-set, extrinsics-set)) = put.put.ensures in
-    left-told in-marks in-margins in-extrinsics settled.settled-p.result settled.before.if-last.true (position-settled settled) marks-set margins-set extrinsics-set
+    left-told in-marks in-margins in-extrinsics settled.settled-p.result settled.if-last.true (position-settled settled) marks-set margins-set extrinsics-set
 
 shape_of-margins-else-last : tie.Need-shape_of-margins-else-last
 shape_of-margins-else-last c = search rules
@@ -176,7 +176,7 @@ shape_of-extrinsics-else-last c = search rules
 returns-else-last : tie.Need-returns-else-last
 returns-else-last c =
     let begun = start (zeros c.before) in
-    let (in-marks, (in-margins, (in-extrinsics, rest))) = begun.pre in
+    let (in-marks, (in-margins, (in-extrinsics, rest))) = begun.requires in
     rw (to_z-of_z (zero-fits (zeros c.before)), to_z-of_z (one_fits c.before))
     (left-raised in-marks in-margins in-extrinsics _ _ c.if-last.false (zero-raised (zeros c.before)) (one-raised c.before))
 

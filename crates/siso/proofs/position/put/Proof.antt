@@ -51,10 +51,9 @@ shape_of-extrinsics-in-Free c = search rules
 returns-in-Free : tie.Need-returns-in-Free
 unfolding mark margin
 returns-in-Free c =
-    let free = c.o-1.given in
-    let m : SFits w32 free.0.0 = search rules in
+    let m : SFits w32 c.in-Free.m = search rules in
     let e : SFits w32 c.args.p.extrinsic = search rules in
-    rw free.1 (refl, (simp plain, simp plain))
+    rw c.in-Free.is (refl, (simp plain, simp plain))
 
 shape_of-marks-in-Forced : tie.Need-shape_of-marks-in-Forced
 shape_of-marks-in-Forced c = search rules
@@ -68,9 +67,8 @@ shape_of-extrinsics-in-Forced c = search rules
 returns-in-Forced : tie.Need-returns-in-Forced
 unfolding mark margin
 returns-in-Forced c =
-    let forced = c.o-in-Forced-1.given in
     let e : SFits w32 c.args.p.extrinsic = search rules in
-    rw forced.1 (refl, (refl, simp plain))
+    rw c.in-Forced.is (refl, (refl, simp plain))
 
 pub put_spec : {M : Type 1} → statement M
 put_spec =

@@ -67,19 +67,19 @@ module _ (c : tie.Else-not-free) where
   one-there = found_some _ both.1
 
   zero_small : Within 100000000 begun.args.zero
-  zero_small = small_known (rw zero-there at begun.pre.0)
+  zero_small = small_known (rw zero-there at begun.requires.0)
 
   one_small : Within 100000000 begun.args.one
-  one_small = small_known (rw one-there at begun.pre.1.0)
+  one_small = small_known (rw one-there at begun.requires.1.0)
 
   fitting : Fitting begun.args.one begun.args.zero begun.args.intrinsic
-  fitting = small-fitting _ _ _ one_small zero_small begun.pre.1.1.0
+  fitting = small-fitting _ _ _ one_small zero_small begun.requires.1.1.0
 
 -- the margin is half the difference
 margin_is : (c : tie.After-half_difference-margin) → let args = (begun c.before).args in c.half_difference-margin.result ≡ half (args.one -ℤ args.zero)
 margin_is c =
-    let zero-fits = (begun c.before).fits.zero in
-    let one_fits = (begun c.before).fits.one in
+    let zero-fits = (begun c.before).ranges.zero in
+    let one_fits = (begun c.before).ranges.one in
     (simp plain at c.half_difference-margin.ensures)
     ∙ rw ((inside_is best_limit _).1 (zero_small c.before), (inside_is best_limit _).1 (one_small c.before)) refl
 
@@ -93,7 +93,7 @@ returns-then-not-free : tie.Need-returns-then-not-free
 returns-then-not-free c =
     let at = c.before.before in
     let one_fits = (start at).ranges.one in
-    let gone = not-true at.is_free-free.result c.before.if-not-free.true-raw in
+    let gone = not-true at.is_free-free.result c.if-not-free.true-raw in
     let bit = rw gone at (simp plain at c.mark_of.ensures) in
     rw bit (forced-by _ _ (start at).args.intrinsic (sym (free-told at) ∙ gone) (start at).requires.1.1.1)
 

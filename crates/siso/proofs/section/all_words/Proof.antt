@@ -34,7 +34,7 @@ module _ (start : tie.Start invariant-loop decreases-loop) where
   values = start.args.channel.now
 
   within : (l : ℕ) → Within 1023 (get_or values l (pos 0))
-  within = value_within 1023 values start.pre.1
+  within = value_within 1023 values start.requires.1
 
 -- what is written
 written :
@@ -45,15 +45,15 @@ written :
 written c =
     let at = c.before.before.before in
     let start = at.before.before.before.before in
-    let y0-fits = at.before.before.before.value-y0.type_inv in
-    let y1-fits = at.before.before.value-y1.type_inv in
-    let y2-fits = at.before.value-y2.type_inv in
+    let y0-fits = at.value-y0.type_inv in
+    let y1-fits = at.value-y1.type_inv in
+    let y2-fits = at.value-y2.type_inv in
     let y3-fits = at.value-y3.type_inv in
     let is = simp plain at c.word_metric.ensures in
-    to_z-of_z (fits_of c.word_metric.type_inv)
+    to_z-of_z {w = w32} (fits_of c.word_metric.type_inv)
     ∙ is
-    ∙ rw (at.before.before.before.value-y0.ensures, at.before.before.value-y1.ensures, at.before.value-y2.ensures, at.value-y3.ensures)
-    (four (values start) c.before.before.loop-w.w start.requires.0)
+    ∙ rw (at.value-y0.ensures, at.value-y1.ensures, at.value-y2.ensures, at.value-y3.ensures)
+    (four (values start) c.loop-w.w start.requires.0)
 
 value-y0-requires : tie.Need-value-y0-requires invariant-loop decreases-loop
 value-y0-requires c κs = search rules
@@ -74,15 +74,15 @@ word_metric-requires : tie.Need-word_metric-requires invariant-loop decreases-lo
 word_metric-requires c κs =
     let at = c.before.before in
     let start = at.before.before.before.before in
-    let y0-fits = at.before.before.before.value-y0.type_inv in
-    let y1-fits = at.before.before.value-y1.type_inv in
-    let y2-fits = at.before.value-y2.type_inv in
+    let y0-fits = at.value-y0.type_inv in
+    let y1-fits = at.value-y1.type_inv in
+    let y2-fits = at.value-y2.type_inv in
     let y3-fits = at.value-y3.type_inv in
     simp plain (
-      rw at.before.before.before.value-y0.ensures (within start 0),
+      rw at.value-y0.ensures (within start 0),
       (
-        rw at.before.before.value-y1.ensures (within start 1),
-        (rw at.before.value-y2.ensures (within start 2), rw at.value-y3.ensures (within start 3)),
+        rw at.value-y1.ensures (within start 1),
+        (rw at.value-y2.ensures (within start 2), rw at.value-y3.ensures (within start 3)),
       ),
     )
 
@@ -103,7 +103,7 @@ loop-w-preserved c =
     let turn = c.before.before in
     let g = turn.loop-w.g in
     let w = turn.loop-w.w in
-    let inside : w < length g = omega (arith, c.before.loop-w-test.true) in (
+    let inside : w < length g = omega (arith, c.loop-w-test.true) in (
       omega arith,
       simp length-set turn.loop-w.invariant.1,
       below_more _ w
@@ -112,10 +112,10 @@ loop-w-preserved c =
     )
 
 shape_of-g : tie.Need-shape_of-g invariant-loop decreases-loop
-shape_of-g c = c.before.loop-w.invariant.1
+shape_of-g c = c.loop-w.invariant.1
 
 returns : tie.Need-returns invariant-loop decreases-loop
-returns c w h = c.before.loop-w.invariant.2 w (omega arith)
+returns c w h = c.loop-w.invariant.2 w (omega arith)
 
 pub all_words_spec : {M : Type 1} → statement M
 all_words_spec =

@@ -44,16 +44,16 @@ module _ (c : tie.In-loop-s invariant-loop decreases-loop) where
   start = c.before.before.before.before.before.before.before
 
   abbrev s : ℕ
-  s = c.before.loop-s.s
+  s = c.loop-s.s
 
   -- the metrics of the section's words
   abbrev g : List ℤ
-  g = c.before.before.before.word_metrics.new.1.0
+  g = c.word_metrics.new.g
 
   branches : Branches start.args.states start.args.next.now start.args.words.now g start.args.a
   branches =
-      let called = c.before.before.before.word_metrics in
-      ready_branches start.pre.0 called.auto.1.0 called.ensures
+      let called = c.word_metrics in
+      ready_branches start.requires.0 called.auto.g called.ensures
 
   abbrev target : ℕ → ℕ → ℕ
   target = target_of start.args.next.now
@@ -72,15 +72,15 @@ module _ (c : tie.In-loop-s invariant-loop decreases-loop) where
   leads b bit = (branch_read branches s b c.loop-s-test.true bit).leads
 
   bounded : (b : ℕ) → b < 2 → Within 12283 (branch-metric s b)
-  bounded b bit = let a-fits = start.fits.a in simp plain (branch_small branches s b c.loop-s-test.true bit)
+  bounded b bit = let a-fits = start.ranges.a in simp plain (branch_small branches s b c.loop-s-test.true bit)
 
 -- what is read in the turn
 module _ (c : tie.After-m1-1 invariant-loop decreases-loop) where
   abbrev turn : tie.In-loop-s invariant-loop decreases-loop
-  turn = c.before.before.before.before.before.before.before.before.before
+  turn = c.before.before.before.before.before.before.before
 
   abbrev first : tie.After-metric_at-g0 invariant-loop decreases-loop
-  first = c.before.before.before.before.before
+  first = c.before.before.before.before
 
   abbrev second : tie.After-metric_at-g1 invariant-loop decreases-loop
   second = c.before
@@ -88,29 +88,29 @@ module _ (c : tie.After-m1-1 invariant-loop decreases-loop) where
   before-is :
       to_z w32 (of_z w32 (get_or (start turn).args.work.now ((start turn).args.at + s turn) (pos 0)))
       ≡ get_or (start turn).args.work.now ((start turn).args.at + s turn) (pos 0)
-  before-is = to_z-of_z (fits_of c.before.before.before.before.before.before.before.before.f-1.given)
+  before-is = to_z-of_z {w = w32} (fits_of c.f-1.given)
 
   zero-after :
-      to_z w32 (of_z w32 (get_or (start turn).args.t7 (get_or (start turn).args.next.now (2 * s turn) 0) (pos 0)))
-      ≡ get_or (start turn).args.t7 (target turn (s turn) 0) (pos 0)
-  zero-after = rw add-zero (to_z-of_z (fits_of c.before.before.before.before.m0-1.given))
+      to_z w32 (of_z w32 (get_or (start turn).args.m (get_or (start turn).args.next.now (2 * s turn) 0) (pos 0)))
+      ≡ get_or (start turn).args.m (target turn (s turn) 0) (pos 0)
+  zero-after = rw add-zero (to_z-of_z {w = w32} (fits_of c.m0-1.given))
 
   one-after :
-      to_z w32 (of_z w32 (get_or (start turn).args.t7 (target turn (s turn) 1) (pos 0))) ≡ get_or (start turn).args.t7 (target turn (s turn) 1) (pos 0)
-  one-after = to_z-of_z (fits_of c.m1-1.given)
+      to_z w32 (of_z w32 (get_or (start turn).args.m (target turn (s turn) 1) (pos 0))) ≡ get_or (start turn).args.m (target turn (s turn) 1) (pos 0)
+  one-after = to_z-of_z {w = w32} (fits_of c.m1-1.given)
 
   -- the metrics of the two branches
   zero-metric : to_z w32 (of_z w32 first.metric_at-g0.result) ≡ branch-metric turn (s turn) 0
-  zero-metric = rw add-zero (to_z-of_z (fits_of first.metric_at-g0.ok) ∙ first.metric_at-g0.ensures)
+  zero-metric = rw add-zero (to_z-of_z {w = w32} (fits_of first.metric_at-g0.type_inv) ∙ first.metric_at-g0.ensures)
 
   one-metric : to_z w32 (of_z w32 second.metric_at-g1.result) ≡ branch-metric turn (s turn) 1
-  one-metric = to_z-of_z (fits_of second.metric_at-g1.ok) ∙ second.metric_at-g1.ensures
+  one-metric = to_z-of_z {w = w32} (fits_of second.metric_at-g1.type_inv) ∙ second.metric_at-g1.ensures
 
 -- on from the state, over each branch
 zero-departs :
     (c : tie.After-plus invariant-loop decreases-loop)
     → let t = turn c.before in
-    held (to_z w32 (of_z w32 c.plus.result)) ≡ departing (target t) (branch-metric t) (row (start t).args.t7) (s t) 0
+    held (to_z w32 (of_z w32 c.plus.result)) ≡ departing (target t) (branch-metric t) (row (start t).args.m) (s t) 0
 unfolding departing
 zero-departs c =
     let read = c.before in
@@ -119,7 +119,7 @@ zero-departs c =
 one-departs :
     (c : tie.After-plus-in-loop-s invariant-loop decreases-loop)
     → let t = turn c.before.before in
-    held (to_z w32 (of_z w32 c.plus-in-loop-s.result)) ≡ departing (target t) (branch-metric t) (row (start t).args.t7) (s t) 1
+    held (to_z w32 (of_z w32 c.plus-in-loop-s.result)) ≡ departing (target t) (branch-metric t) (row (start t).args.m) (s t) 1
 unfolding departing
 one-departs c =
     let read = c.before.before in
@@ -130,7 +130,7 @@ zero-passes :
     (c : tie.After-through invariant-loop decreases-loop)
     → let t = turn c.before.before.before.before in
     held (to_z w32 (of_z w32 c.through.result))
-    ≡ passing (target t) (branch-metric t) (row_at (start t).args.work.now (start t).args.at) (row (start t).args.t7) 0 (s t)
+    ≡ passing (target t) (branch-metric t) (row_at (start t).args.work.now (start t).args.at) (row (start t).args.m) 0 (s t)
 unfolding passing departing
 zero-passes c =
     let read = c.before.before.before.before in
@@ -140,14 +140,14 @@ one_passes :
     (c : tie.After-through-in-loop-s invariant-loop decreases-loop)
     → let t = turn c.before.before.before.before.before.before in
     held (to_z w32 (of_z w32 c.through-in-loop-s.result))
-    ≡ passing (target t) (branch-metric t) (row_at (start t).args.work.now (start t).args.at) (row (start t).args.t7) 1 (s t)
+    ≡ passing (target t) (branch-metric t) (row_at (start t).args.work.now (start t).args.at) (row (start t).args.m) 1 (s t)
 unfolding passing departing
 one_passes c =
     let read = c.before.before.before.before.before.before in
     kept c.through-in-loop-s.result c.through-in-loop-s.type_inv (rw (before-is read, one-metric read, one-after read) at c.through-in-loop-s.ensures)
 
 word_metrics-requires : tie.Need-word_metrics-requires invariant-loop decreases-loop
-word_metrics-requires c κs = let ready = c.before.before.before.requires.0 in (ready.outputs, (ready.values, ready.enough))
+word_metrics-requires c κs = let ready = c.requires.0 in (ready.outputs, (ready.values, ready.enough))
 
 loop-s-init : tie.Need-loop-s-init invariant-loop decreases-loop
 loop-s-init c = (omega arith, refl, (λ j h. absurd (omega arith)), sym (over_zero _), sym (over_zero _))
@@ -172,51 +172,51 @@ overflow_cast-t0 c = omega (arith, read0 c.before.before)
 
 metric_at-g0-requires : tie.Need-metric_at-g0-requires invariant-loop decreases-loop
 metric_at-g0-requires c κs =
-    let t = c.before.before.before in
+    let t = c.before.before in
     let read = read0 t in
     rw (to_z-of_z (start t).ranges.a) (read.in_words, (read.known, (read.small, (start t).requires.0.apriori)))
 
 offset_bounds-m-t0 : tie.Need-offset_bounds-m-t0 invariant-loop decreases-loop
-offset_bounds-m-t0 c = omega (arith, read0 c.before.before.before.before)
+offset_bounds-m-t0 c = omega (arith, read0 c.before.before.before)
 
 bounds-m-t0 : tie.Need-bounds-m-t0 invariant-loop decreases-loop
-bounds-m-t0 c = omega (arith, read0 c.before.before.before.before)
+bounds-m-t0 c = omega (arith, read0 c.before.before.before)
 
 overflow_add-t1 : tie.Need-overflow_add-t1 invariant-loop decreases-loop
-overflow_add-t1 c = omega (arith, read1 c.before.before.before.before.before)
+overflow_add-t1 c = omega (arith, read1 c.before.before.before.before)
 
 bounds-next-i-in-loop-s : tie.Need-bounds-next-i-in-loop-s invariant-loop decreases-loop
-bounds-next-i-in-loop-s c = omega (arith, read1 c.before.before.before.before.before.before)
+bounds-next-i-in-loop-s c = omega (arith, read1 c.before.before.before.before.before)
 
 overflow_cast-t1 : tie.Need-overflow_cast-t1 invariant-loop decreases-loop
-overflow_cast-t1 c = omega (arith, read1 c.before.before.before.before.before.before)
+overflow_cast-t1 c = omega (arith, read1 c.before.before.before.before.before)
 
 overflow_add-i : tie.Need-overflow_add-i invariant-loop decreases-loop
-overflow_add-i c = omega (arith, read1 c.before.before.before.before.before.before.before)
+overflow_add-i c = omega (arith, read1 c.before.before.before.before.before)
 
 metric_at-g1-requires : tie.Need-metric_at-g1-requires invariant-loop decreases-loop
 metric_at-g1-requires c κs =
-    let t = c.before.before.before.before.before.before.before in
+    let t = c.before.before.before.before.before in
     let read = read1 t in
     rw (to_z-of_z (start t).ranges.a) (read.in_words, (read.known, (read.small, (start t).requires.0.apriori)))
 
 offset_bounds-m-t1 : tie.Need-offset_bounds-m-t1 invariant-loop decreases-loop
-offset_bounds-m-t1 c = omega (arith, read1 c.before.before.before.before.before.before.before.before)
+offset_bounds-m-t1 c = omega (arith, read1 c.before.before.before.before.before.before)
 
 bounds-m-t1 : tie.Need-bounds-m-t1 invariant-loop decreases-loop
-bounds-m-t1 c = omega (arith, read1 c.before.before.before.before.before.before.before.before)
+bounds-m-t1 c = omega (arith, read1 c.before.before.before.before.before.before)
 
 plus-requires : tie.Need-plus-requires invariant-loop decreases-loop
 plus-requires c κs =
     let t = turn c in
     rw (zero-after c, zero-metric c)
-    (state_small (start t).pre.1.0 _ (leads t 0 (omega arith)), within_more (omega arith) (bounded t 0 (omega arith)))
+    (state_small (start t).requires.1.0 _ (leads t 0 (omega arith)), within_more (omega arith) (bounded t 0 (omega arith)))
 
 plus-requires-in-loop-s : tie.Need-plus-requires-in-loop-s invariant-loop decreases-loop
 plus-requires-in-loop-s c κs =
     let t = turn c.before in
     rw (one-after c.before, one-metric c.before)
-    (state_small (start t).pre.1.0 _ (leads t 1 (omega arith)), within_more (omega arith) (bounded t 1 (omega arith)))
+    (state_small (start t).requires.1.0 _ (leads t 1 (omega arith)), within_more (omega arith) (bounded t 1 (omega arith)))
 
 larger-requires : tie.Need-larger-requires invariant-loop decreases-loop
 larger-requires c κs = search rules
@@ -232,7 +232,7 @@ through-requires c κs =
     let read = c.before.before.before in
     let t = turn read in
     rw (before-is read, zero-metric read, zero-after read)
-    ((start t).pre.1.1.1.small _ t.loop-s-test.taken, (bounded t 0 (omega arith), (start t).pre.1.0.small _ (leads t 0 (omega arith))))
+    ((start t).requires.1.1.1.small _ t.loop-s-test.true, (bounded t 0 (omega arith), (start t).requires.1.0.small _ (leads t 0 (omega arith))))
 
 larger-best0-requires : tie.Need-larger-best0-requires invariant-loop decreases-loop
 larger-best0-requires c κs = search rules
@@ -242,7 +242,7 @@ through-requires-in-loop-s c κs =
     let read = c.before.before.before.before.before in
     let t = turn read in
     rw (before-is read, one-metric read, one-after read)
-    ((start t).pre.1.1.1.small _ t.loop-s-test.taken, (bounded t 1 (omega arith), (start t).pre.1.0.small _ (leads t 1 (omega arith))))
+    ((start t).requires.1.1.1.small _ t.loop-s-test.true, (bounded t 1 (omega arith), (start t).requires.1.0.small _ (leads t 1 (omega arith))))
 
 larger-best1-requires : tie.Need-larger-best1-requires invariant-loop decreases-loop
 larger-best1-requires c κs = search rules
@@ -260,30 +260,30 @@ loop-s-preserved c =
     let row_done = zero-done.before.before in
     let t = turn row_done.before.before.before in
     let at = t.before in (
-      omega (arith, t.loop-s-test.taken),
-      simp length-set at.loop-s.inv.1,
-      one_more held at.loop-s.out at.loop-s.s _ (pos 0) (omega (arith, read0 t)) at.loop-s.inv.2
+      omega (arith, t.loop-s-test.true),
+      simp length-set at.loop-s.invariant.1,
+      one_more held at.loop-s.out at.loop-s.s _ (pos 0) (omega (arith, read0 t)) at.loop-s.invariant.2
           (kept row_done.larger.result row_done.larger.type_inv
           (row_done.larger.ensures ∙ ap₂ larger (zero-departs row_done.before.before) (one-departs row_done.before))),
       kept zero-done.larger-best0.result zero-done.larger-best0.type_inv
-          (zero-done.larger-best0.ensures ∙ ap₂ larger at.loop-s.inv.3 (zero-passes zero-done.before) ∙ sym (over_more at.loop-s.s _)),
+          (zero-done.larger-best0.ensures ∙ ap₂ larger at.loop-s.invariant.3 (zero-passes zero-done.before) ∙ sym (over_more at.loop-s.s _)),
       kept c.larger-best1.result c.larger-best1.type_inv
-          (c.larger-best1.ensures ∙ ap₂ larger at.loop-s.inv.4 (one_passes c.before) ∙ sym (over_more at.loop-s.s _)),
+          (c.larger-best1.ensures ∙ ap₂ larger at.loop-s.invariant.4 (one_passes c.before) ∙ sym (over_more at.loop-s.s _)),
     )
 
 shape_of-g : tie.Need-shape_of-g invariant-loop decreases-loop
-shape_of-g c = c.before.before.before.word_metrics.auto.1.0
+shape_of-g c = c.word_metrics.auto.g
 
 returns : tie.Need-returns invariant-loop decreases-loop
 returns c =
-    let called = c.before.before.before.word_metrics in
+    let called = c.word_metrics in
     let start = c.before.before.before.before.before.before.before in
     let a-fits = start.ranges.a in
-    let end : c.before.loop-s.s ≡ start.args.states = omega arith in (
+    let end : c.loop-s.s ≡ start.args.states = omega arith in (
       called.ensures,
       (
-        (λ j h. simp plain at (c.before.loop-s.invariant.2 j (omega arith))),
-        (rw end at (simp plain at c.before.loop-s.invariant.3), rw end at (simp plain at c.before.loop-s.invariant.4)),
+        (λ j h. simp plain at (c.loop-s.invariant.2 j (omega arith))),
+        (rw end at (simp plain at c.loop-s.invariant.3), rw end at (simp plain at c.loop-s.invariant.4)),
       ),
     )
 

@@ -23,7 +23,7 @@ within-fits z = simp ints (omega arith)
 -- the sum, as it is computed
 sum_is :
     (c : tie.After-signed)
-    → let args = c.before.args in
+    → let args = c.args in
     to_z w32 (of_z w32 c.signed.result) +ℤ to_z w32 (of_z w32 args.g) ≡ signed args.b args.a +ℤ args.g
 sum_is c =
     let start = c.before in
@@ -34,8 +34,8 @@ sum_is c =
 
 overflow_add-result : tie.Need-overflow_add-result
 overflow_add-result c =
-    let (a_small, g-small) = c.before.requires in
-    rw (sum_is c) (within-fits _ (within_sum (signed_within c.before.args.b a_small) g-small))
+    let (a_small, g-small) = c.requires in
+    rw (sum_is c) (within-fits _ (within_sum (signed_within c.args.b a_small) g-small))
 
 returns : tie.Need-returns
 returns c = to_z-of_z (overflow_add-result c) ∙ sum_is c

@@ -46,16 +46,16 @@ module _ (c : tie.In-loop-s invariant-loop decreases-loop) where
   start = c.before.before.before.before.before.before.before
 
   abbrev s : ℕ
-  s = c.before.loop-s.s
+  s = c.loop-s.s
 
   -- the metrics of the section's words
   abbrev g : List ℤ
-  g = c.before.before.before.word_metrics.new.1.0
+  g = c.word_metrics.new.g
 
   branches : Branches start.args.states start.args.next.now start.args.words.now g start.args.a
   branches =
-      let called = c.before.before.before.word_metrics in
-      ready_branches start.pre.0 called.auto.1.0 called.ensures
+      let called = c.word_metrics in
+      ready_branches start.requires.0 called.auto.g called.ensures
 
   abbrev target : ℕ → ℕ → ℕ
   target = target_of start.args.next.now
@@ -65,7 +65,7 @@ module _ (c : tie.In-loop-s invariant-loop decreases-loop) where
 
   -- what the branch of bit b brings
   abbrev brought : ℕ → Option ℤ
-  brought b = plus (row start.args.t7 s) (some (branch-metric s b))
+  brought b = plus (row start.args.m s) (some (branch-metric s b))
 
   -- the code reads at 2·s what stands at 2·s + 0
   abbrev to0 : ℕ
@@ -82,31 +82,31 @@ module _ (c : tie.In-loop-s invariant-loop decreases-loop) where
 
   bounded : (b : ℕ) → b < 2 → Within 100000000 (branch-metric s b)
   bounded b bit =
-      let a-fits = start.fits.a in
+      let a-fits = start.ranges.a in
       simp plain (within_more (omega arith) (branch_small branches s b c.loop-s-test.true bit))
 
 -- where the state's word was read, from where the metric of either branch is known
 abbrev zero_of : tie.After-metric_at invariant-loop decreases-loop → tie.After-x-1 invariant-loop decreases-loop
-zero_of c = c.before.before.before.before
+zero_of c = c.before.before.before
 
 abbrev one_of : tie.After-metric_at-in-loop-s invariant-loop decreases-loop → tie.After-x-1 invariant-loop decreases-loop
-one_of c = c.before.before.before.before.before.before.before
+one_of c = c.before.before.before.before.before
 
 -- the word, and the metrics of the two branches
 word-is :
     (c : tie.After-x-1 invariant-loop decreases-loop)
-    → let t = c.before in to_z w32 (of_z w32 (get_or (start t).args.t7 (s t) (pos 0))) ≡ get_or (start t).args.t7 (s t) (pos 0)
-word-is c = to_z-of_z (fits_of c.x-1.given)
+    → let t = c.before in to_z w32 (of_z w32 (get_or (start t).args.m (s t) (pos 0))) ≡ get_or (start t).args.m (s t) (pos 0)
+word-is c = to_z-of_z {w = w32} (fits_of c.x-1.given)
 
 zero-metric :
     (c : tie.After-metric_at invariant-loop decreases-loop)
     → let t = (zero_of c).before in to_z w32 (of_z w32 c.metric_at.result) ≡ branch-metric t (s t) 0
-zero-metric c = rw add-zero (to_z-of_z (fits_of c.metric_at.type_inv) ∙ c.metric_at.ensures)
+zero-metric c = rw add-zero (to_z-of_z {w = w32} (fits_of c.metric_at.type_inv) ∙ c.metric_at.ensures)
 
 one-metric :
     (c : tie.After-metric_at-in-loop-s invariant-loop decreases-loop)
     → let t = (one_of c).before in to_z w32 (of_z w32 c.metric_at-in-loop-s.result) ≡ branch-metric t (s t) 1
-one-metric c = to_z-of_z (fits_of c.metric_at-in-loop-s.type_inv) ∙ c.metric_at-in-loop-s.ensures
+one-metric c = to_z-of_z {w = w32} (fits_of c.metric_at-in-loop-s.type_inv) ∙ c.metric_at-in-loop-s.ensures
 
 -- what each branch brings
 zero-brings : (c : tie.After-plus-y0 invariant-loop decreases-loop) → held (to_z w32 (of_z w32 c.plus-y0.result)) ≡ brought (zero_of c.before).before 0
@@ -117,16 +117,16 @@ one-brings c = kept c.plus-y1.result c.plus-y1.type_inv (rw (word-is (one_of c.b
 
 -- and the metric where it leads, with it; the second branch finds what the first has left
 abbrev left : tie.After-larger invariant-loop decreases-loop → List ℤ
-left c = let t = (one_of c.before.before.before).before in set t.before.loop-s.out (to0 t) (to_z w32 (of_z w32 c.larger.result))
+left c = let t = (one_of c.before.before.before).before in set t.loop-s.out (to0 t) (to_z w32 (of_z w32 c.larger.result))
 
 zero-arrives :
     (c : tie.After-larger invariant-loop decreases-loop)
     → let t = (one_of c.before.before.before).before in
-    held (to_z w32 (of_z w32 c.larger.result)) ≡ larger (row t.before.loop-s.out (to0 t)) (brought t 0)
+    held (to_z w32 (of_z w32 c.larger.result)) ≡ larger (row t.loop-s.out (to0 t)) (brought t 0)
 zero-arrives c =
     let t = (one_of c.before.before.before).before in
-    let had = kept (get_or t.before.loop-s.out (to0 t) (pos 0)) c.before.had0-1.given refl in
-    kept c.larger.result c.larger.type_inv (c.larger.ensures ∙ ap₂ larger had (zero-brings c.before.before.before.before.before))
+    let had = kept (get_or t.loop-s.out (to0 t) (pos 0)) c.had0-1.given refl in
+    kept c.larger.result c.larger.type_inv (c.larger.ensures ∙ ap₂ larger had (zero-brings c.before.before.before.before))
 
 one-arrives :
     (c : tie.After-larger-in-loop-s invariant-loop decreases-loop)
@@ -134,11 +134,11 @@ one-arrives :
     held (to_z w32 (of_z w32 c.larger-in-loop-s.result)) ≡ larger (row (left c.before.before) (to1 t)) (brought t 1)
 one-arrives c =
     let t = (one_of c.before.before.before.before.before).before in
-    let had = kept (get_or (left c.before.before) (to1 t) (pos 0)) c.before.had1-1.given refl in
+    let had = kept (get_or (left c.before.before) (to1 t) (pos 0)) c.had1-1.given refl in
     kept c.larger-in-loop-s.result c.larger-in-loop-s.type_inv (c.larger-in-loop-s.ensures ∙ ap₂ larger had (one-brings c.before.before.before.before))
 
 word_metrics-requires : tie.Need-word_metrics-requires invariant-loop decreases-loop
-word_metrics-requires c κs = let ready = c.before.before.before.requires.0 in (ready.outputs, (ready.values, ready.enough))
+word_metrics-requires c κs = let ready = c.requires.0 in (ready.outputs, (ready.values, ready.enough))
 
 loop-s-init : tie.Need-loop-s-init invariant-loop decreases-loop
 loop-s-init c = (omega arith, refl, refl, saved_none, λ r h. unreached 16 r h ∙ sym (advance_none _ _ _ r))
@@ -178,28 +178,28 @@ overflow_cast-t1 c = omega (arith, read1 c.before.before.before)
 
 metric_at-requires : tie.Need-metric_at-requires invariant-loop decreases-loop
 metric_at-requires c κs =
-    let t = c.before.before.before.before in
+    let t = c.before.before.before in
     let read = read0 t in
     rw (to_z-of_z (start t).ranges.a) (read.in_words, (read.known, (read.small, (start t).requires.0.apriori)))
 
 plus-y0-requires : tie.Need-plus-y0-requires invariant-loop decreases-loop
 plus-y0-requires c κs =
     let t = (zero_of c).before in
-    rw (word-is (zero_of c), zero-metric c) (state_small (start t).pre.1.0 _ t.loop-s-test.taken, bounded t 0 (omega arith))
+    rw (word-is (zero_of c), zero-metric c) (state_small (start t).requires.1.0 _ t.loop-s-test.true, bounded t 0 (omega arith))
 
 overflow_add-i : tie.Need-overflow_add-i invariant-loop decreases-loop
-overflow_add-i c = omega (arith, read1 c.before.before.before.before.before.before.before)
+overflow_add-i c = omega (arith, read1 c.before.before.before.before.before)
 
 metric_at-requires-in-loop-s : tie.Need-metric_at-requires-in-loop-s invariant-loop decreases-loop
 metric_at-requires-in-loop-s c κs =
-    let t = c.before.before.before.before.before.before.before in
+    let t = c.before.before.before.before.before in
     let read = read1 t in
     rw (to_z-of_z (start t).ranges.a) (read.in_words, (read.known, (read.small, (start t).requires.0.apriori)))
 
 plus-y1-requires : tie.Need-plus-y1-requires invariant-loop decreases-loop
 plus-y1-requires c κs =
     let t = (one_of c).before in
-    rw (word-is (one_of c), one-metric c) (state_small (start t).pre.1.0 _ t.loop-s-test.taken, bounded t 1 (omega arith))
+    rw (word-is (one_of c), one-metric c) (state_small (start t).requires.1.0 _ t.loop-s-test.true, bounded t 1 (omega arith))
 
 offset_bounds-out-t0 : tie.Need-offset_bounds-out-t0 invariant-loop decreases-loop
 offset_bounds-out-t0 c = omega (arith, read0 (one_of c.before).before)
@@ -242,28 +242,28 @@ loop-s-preserved c =
     let read = one_of c.before.before.before.before.before in
     let t = read.before in
     let at = t.before in (
-      omega (arith, t.loop-s-test.taken),
-      simp length-set at.loop-s.inv.1,
-      simp length-set at.loop-s.inv.2,
-      rw (word-is read) (saved_more (omega arith) at.loop-s.inv.3),
-      λ r h. advanced (target t) (branch-metric t) (row (start t).args.t7) at.loop-s.out (s t) r (to0 t) (to1 t) _ _ (at.loop-s.inv.4 r h)
+      omega (arith, t.loop-s-test.true),
+      simp length-set at.loop-s.invariant.1,
+      simp length-set at.loop-s.invariant.2,
+      rw (word-is read) (saved_more (omega arith) at.loop-s.invariant.3),
+      λ r h. advanced (target t) (branch-metric t) (row (start t).args.m) at.loop-s.out (s t) r (to0 t) (to1 t) _ _ (at.loop-s.invariant.4 r h)
           (rw add-zero) (omega (arith, read0 t)) (zero-arrives c.before.before)
           refl (simp length-set (omega (arith, read1 t))) (one-arrives c),
     )
 
 shape_of-g : tie.Need-shape_of-g invariant-loop decreases-loop
-shape_of-g c = c.before.before.before.word_metrics.auto.1.0
+shape_of-g c = c.word_metrics.auto.g
 
 shape_of-work : tie.Need-shape_of-work invariant-loop decreases-loop
 shape_of-work c = search rules
 
 returns : tie.Need-returns invariant-loop decreases-loop
 returns c =
-    let called = c.before.before.before.word_metrics in
+    let called = c.word_metrics in
     let start = c.before.before.before.before.before.before.before in
     let a-fits = start.ranges.a in
-    let end : c.before.loop-s.s ≡ start.args.states = omega arith in
-    (called.ensures, ((λ r h. simp plain at (rw end at (c.before.loop-s.invariant.4 r h))), rw end at c.before.loop-s.invariant.3))
+    let end : c.loop-s.s ≡ start.args.states = omega arith in
+    (called.ensures, ((λ r h. simp plain at (rw end at (c.loop-s.invariant.4 r h))), rw end at c.loop-s.invariant.3))
 
 pub forwards_spec : {M : Type 1} → statement M
 forwards_spec =

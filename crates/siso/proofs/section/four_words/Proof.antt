@@ -35,18 +35,18 @@ module _ (start : tie.Start) where
 
   within : Within 1023 y0 × (Within 1023 y1 × (Within 1023 (pos 0) × Within 1023 (pos 0)))
   within =
-      let y0-fits = start.fits.y0 in
-      let y1-fits = start.fits.y1 in
-      simp plain (start.pre.0, (start.pre.1.0, (within_zero 1023, within_zero 1023)))
+      let y0-fits = start.ranges.y0 in
+      let y1-fits = start.ranges.y1 in
+      simp plain (start.requires.0, (start.requires.1.0, (within_zero 1023, within_zero 1023)))
 
   -- what is written for a word
   written :
       (w : ℕ) (z : ℤ) → mag z < 2 ^ hbits w32 → z ≡ word_metric (λ l. get_or (y0 ∷ y1 ∷ pos 0 ∷ pos 0 ∷ []) l (pos 0)) w 4
       → to_z w32 (of_z w32 z) ≡ metric w
   written w z fits is =
-      let y0-fits = start.fits.y0 in
-      let y1-fits = start.fits.y1 in
-      to_z-of_z (fits_of fits) ∙ (simp plain at is) ∙ four values w (omega arith)
+      let y0-fits = start.ranges.y0 in
+      let y1-fits = start.ranges.y1 in
+      to_z-of_z {w = w32} (fits_of fits) ∙ (simp plain at is) ∙ four values w (omega arith)
 
 word_metric-requires : tie.Need-word_metric-requires
 word_metric-requires c κs = within c
@@ -78,9 +78,9 @@ shape_of-g c = search rules
 returns : tie.Need-returns
 returns c =
     let start = c.before.before.before.before in
-    let first = c.before.before.before.word_metric in
-    let second = c.before.before.word_metric-2 in
-    let third = c.before.word_metric-3 in
+    let first = c.word_metric in
+    let second = c.word_metric-2 in
+    let third = c.word_metric-3 in
     let fourth = c.word_metric-4 in
     rw (four_written start.args.g.now _ _ _ _ start.requires.1.1)
     (four_told

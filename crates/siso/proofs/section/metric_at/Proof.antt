@@ -30,7 +30,7 @@ returns c =
     let a-fits = start.ranges.a in
     let metric-fits = c.branch_metric.type_inv in
     let part : ℤ = get_or start.args.g.now (get_or start.args.words.now start.args.i 0) (pos 0) in
-    let part-fits : SFits w32 part = fits_of c.before.branch_metric-arg-1.given in
+    let part-fits : SFits w32 part = fits_of c.branch_metric-arg-1.given in
     simp plain (simp plain at c.branch_metric.ensures)
 
 pub metric_at_spec : {M : Type 1} → statement M

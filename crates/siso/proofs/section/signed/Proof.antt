@@ -27,15 +27,15 @@ negated_fits : (x : ℤ) → Within 8191 x → SFits w32 (pos 0 -ℤ x)
 negated_fits x = simp ints (omega arith)
 
 overflow_sub-result : tie.Need-overflow_sub-result
-overflow_sub-result c = let x_Fits = c.before.ranges.x in simp plain (negated_fits _ c.before.requires)
+overflow_sub-result c = let x_Fits = c.ranges.x in simp plain (negated_fits _ c.requires)
 
 returns-then-bit-eq0 : tie.Need-returns-then-bit-eq0
 returns-then-bit-eq0 c =
-    let x_Fits = c.before.ranges.x in
+    let x_Fits = c.ranges.x in
     rw (to_z-of_z (overflow_sub-result c), c.if-bit-eq0.true) (simp plain (against _))
 
 returns-else-bit-eq0 : tie.Need-returns-else-bit-eq0
-returns-else-bit-eq0 c = to_z-of_z c.before.ranges.x ∙ for _ _ c.if-bit-eq0.false
+returns-else-bit-eq0 c = to_z-of_z c.ranges.x ∙ for _ _ c.if-bit-eq0.false
 
 pub signed_spec : {M : Type 1} → statement M
 signed_spec = tie.close (tie.spec overflow_sub-result returns-then-bit-eq0 returns-else-bit-eq0)

@@ -38,10 +38,10 @@ module _ (c : tie.After-signed) where
 
   sum_is : to_z w32 (of_z w32 start.args.g) +ℤ to_z w32 (of_z w32 c.signed.result) ≡ start.args.g +ℤ part
   sum_is =
-      let g-fits = start.fits.g in
-      let y-fits = start.fits.y in
+      let g-fits = start.ranges.g in
+      let y-fits = start.ranges.y in
       let part-fits = c.signed.type_inv in
-      simp plain (ap (λ z. start.args.g +ℤ z) (simp plain at (rw c.before.output.ensures at c.signed.ensures)))
+      simp plain (ap (λ z. start.args.g +ℤ z) (simp plain at (rw c.output.ensures at c.signed.ensures)))
 
 overflow_add-result : tie.Need-overflow_add-result
 overflow_add-result c =

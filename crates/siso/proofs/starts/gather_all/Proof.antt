@@ -56,7 +56,7 @@ none_before f a true e none-now =
 
 kept_on :
     {ms ms' ms'' : List ℕ} {gs gs' gs'' es es' es'' : List ℤ} → ListsKept ms gs es ms' gs' es' → ListsKept ms' gs' es' ms'' gs'' es'' → ListsKept ms gs es ms'' gs'' es''
-kept_on a b = record { marks = b.marks-1 ∙ a.marks-1; margins = b.margins-1 ∙ a.margins-1; extrinsics = b.extrinsics-1 ∙ a.extrinsics-1 }
+kept_on a b = record { marks = b.marks ∙ a.marks; margins = b.margins ∙ a.margins; extrinsics = b.extrinsics ∙ a.extrinsics }
 
 -- ---- names for what is known at the loop's head
 
@@ -67,8 +67,8 @@ pass : (at : tie.At-loop-start invariant-loop decreases-loop)
     → let args = (begun at).args in Pass (pass_table args.format args.next.now args.words.now) args.format.sections (values_of args.channel.now args.apriori.now)
 pass at = (begun at).requires.0
 
-is-start : (c : tie.In-loop-start invariant-loop decreases-loop) → c.before.loop-start.start < starts (begun c.before).args.format.states (begun c.before).args.format.end
-is-start c = rw c.before.before.starts-count.ensures at c.loop-start-test.true
+is-start : (c : tie.In-loop-start invariant-loop decreases-loop) → c.loop-start.start < starts (begun c.before).args.format.states (begun c.before).args.format.end
+is-start c = rw c.starts-count.ensures at c.loop-start-test.true
 
 -- ---- the needs
 
@@ -77,7 +77,7 @@ starts-count-requires c κs = search rules
 
 loop-start-init : tie.Need-loop-start-init invariant-loop decreases-loop
 loop-start-init c =
-    let (pass, (words-many, (work_long, (marks_long, (margins_long, extrinsics_long))))) = c.before.before.before.before.requires in (
+    let (pass, (words-many, (work_long, (marks_long, (margins_long, extrinsics_long))))) = c.requires in (
       omega arith,
       words-many,
       work_long,
@@ -105,20 +105,20 @@ overflow_add-start c =
     omega (arith, start_below p _ (is-start turn), (table_limits p).most_states)
 
 loop-start-smaller : tie.Need-loop-start-smaller invariant-loop decreases-loop
-loop-start-smaller c = omega (arith, (turn-of c).loop-test.true)
+loop-start-smaller c = omega (arith, (turn-of c).loop-start-test.true)
 
 loop-start-preserved : tie.Need-loop-start-preserved invariant-loop decreases-loop
 loop-start-preserved c =
-    let more = (gathered c).gather-from in
+    let more = (gathered c).gather_from-path in
     let turn = turn-of c in
-    let inv = turn.before.loop-start.inv in (
-      omega (arith, turn.loop-start-test.taken),
-      more.kept.1.1.1.1.1.1.1.1.1.1.0 ∙ inv.1,
-      more.kept.1.1.1.1.1.1.1.1.1.1.1.0 ∙ inv.2,
+    let inv = turn.loop-start.invariant in (
+      omega (arith, turn.loop-start-test.true),
+      more.auto.g ∙ inv.1,
+      more.auto.work ∙ inv.2,
       more.ensures.0,
       λ none-now.
           kept_on
-          (inv.4 (none_before _ _ turn.before.loop-start.any inv.3.reached (sym more.ensures.0.reached ∙ none-now)))
+          (inv.4 (none_before _ _ turn.loop-start.any inv.3.reached (sym more.ensures.0.reached ∙ none-now)))
           (more.ensures.1 none-now),
     )
 
@@ -140,8 +140,8 @@ shape_of-work c = let at = c.before in at.loop-start.invariant.2 ∙ sym (begun 
 returns : tie.Need-returns invariant-loop decreases-loop
 returns c =
     let at = c.before in
-    let e : at.loop-start.start ≡ at.before.starts-count.result = omega (arith, c.loop-start-test.false) in
-    (rw (e, at.before.starts-count.ensures) at at.loop-start.invariant.3, at.loop-start.invariant.4)
+    let e : at.loop-start.start ≡ at.starts-count.result = omega (arith, c.loop-start-test.false) in
+    (rw (e, at.starts-count.ensures) at at.loop-start.invariant.3, at.loop-start.invariant.4)
 
 pub gather_all_spec : {M : Type 1} → statement M
 gather_all_spec =

@@ -59,15 +59,15 @@ is-start f = (begun f).requires.1.0
 stage :
     (f : tie.After-forward-path)
     → let args = (begun f).args in
-    Stage (table f) (values f) args.format.end args.format.sections args.start args.any args.marks-1.now args.margins-1.now args.extrinsics-1.now
+    Stage (table f) (values f) args.format.end args.format.sections args.start args.any args.marks.now args.margins.now args.extrinsics.now
 stage f = (begun f).requires.1.1.1.1
 
 -- the lists that the forward sweep was lent have their lengths still
-words_length : (f : tie.After-forward-path) → length f.forward-path.new.1.1.1.1.1.1.0 ≡ 2 ^ (begun f).args.format.outputs
-words_length f = f.forward-path.auto.1.1.1.1.1.1.0 ∙ (begun f).requires.1.1.0
+words_length : (f : tie.After-forward-path) → length f.forward-path.new.g ≡ 2 ^ (begun f).args.format.outputs
+words_length f = f.forward-path.auto.g ∙ (begun f).requires.1.1.0
 
-work-length : (f : tie.After-forward-path) → length f.forward-path.new.1.1.1.1.1.1.1.0 ≡ ((begun f).args.format.sections + 1) * (begun f).args.format.states
-work-length f = f.forward-path.auto.1.1.1.1.1.1.1.0 ∙ (begun f).requires.1.1.1.0
+work-length : (f : tie.After-forward-path) → length f.forward-path.new.work ≡ ((begun f).args.format.sections + 1) * (begun f).args.format.states
+work-length f = f.forward-path.auto.work ∙ (begun f).requires.1.1.1.0
 
 abbrev forwarded : tie.After-either → tie.After-forward-path
 forwarded e = e.before.before.before
@@ -86,7 +86,7 @@ some-path e =
 
 forward-path-requires : tie.Need-forward-path-requires
 forward-path-requires c κs =
-    let (pass, (is-start, (words-many, (work_long, stage)))) = c.before.before.before.before.before.requires in
+    let (pass, (is-start, (words-many, (work_long, stage)))) = c.requires in
     (pass, (is-start, (words-many, work_long)))
 
 either-requires : tie.Need-either-requires
@@ -125,9 +125,9 @@ starts-requires c κs = search rules
 gather-requires : tie.Need-gather-requires
 gather-requires c κs =
     let counted = c.before.before.before.before.before in
-    let e = counted.before.before in
+    let e = counted.before in
     let f = forwarded e in
-    let there : e.either.result ≡ true = not-false _ counted.before.if-not-either.false-raw in (
+    let there : e.either.result ≡ true = not-false _ counted.if-not-either.false-raw in (
       pass f,
       (
         is-start f,
@@ -141,7 +141,7 @@ gather-requires c κs =
                 (stage f).marks_long,
                 (
                   bests-so-far (pass f) _ _ (begun f).args.any (stage f) (is-start f),
-                  λ is_last. last-start (pass f) _ _ (eqb-true _ _ is_last ∙ counted.starts.ensures) (sym (some-path e) ∙ there),
+                  λ is_last. last-start (pass f) _ _ (eqb-true _ _ is_last ∙ c.starts.ensures) (sym (some-path e) ∙ there),
                 ),
               ),
             ),
@@ -169,15 +169,15 @@ returns : tie.Need-returns
 returns c =
     let g = c.before.before.before.before.before in
     let counted = g.before.before.before.before.before.before in
-    let e = counted.before.before in
+    let e = counted.before in
     let f = forwarded e in
-    let count = counted.starts.ensures in (
+    let count = c.starts.ensures in (
       record {
-        marks_long = g.gather.auto.1.1.1.1.1.1.1.1.0 ∙ (stage f).marks_long;
-        margins_long = g.gather.auto.1.1.1.1.1.1.1.1.1.0 ∙ (stage f).margins_long;
-        extrinsics_long = g.gather.auto.1.1.1.1.1.1.1.1.1.1.0 ∙ (stage f).extrinsics_long;
-        reached = sym (not-false _ counted.before.if-not-either.false-raw) ∙ some-path e;
-        bests = λ q l. g.gather.ensures.0 (ne_eqb ((begun f).args.start + 1) counted.starts.result (λ same. omega (arith, same, count)));
+        marks_long = g.gather.auto.marks ∙ (stage f).marks_long;
+        margins_long = g.gather.auto.margins ∙ (stage f).margins_long;
+        extrinsics_long = g.gather.auto.extrinsics ∙ (stage f).extrinsics_long;
+        reached = sym (not-false _ counted.if-not-either.false-raw) ∙ some-path e;
+        bests = λ q l. g.gather.ensures.0 (ne_eqb ((begun f).args.start + 1) c.starts.result (λ same. omega (arith, same, count)));
         written = λ q same. g.gather.ensures.1 (eq-eqb _ _ (same ∙ sym count));
       },
       λ q. absurd (false≢true (sym q)),
