@@ -5,14 +5,14 @@ use borrow.Author.Tests.{eq-eqb, ne_eqb}
 use Rattle.hints.proofs.counted.Statement.{statement}
 use Rattle.hints.proofs.counted.Tie as tie
 
-add-result : tie.Need-overflow-add-result
-add-result c = search rules
+overflow_add-result : tie.Need-overflow_add-result
+overflow_add-result c = search rules
+
+returns-then-byte-eq10 : tie.Need-returns-then-byte-eq10
+returns-then-byte-eq10 c = rw (eq-eqb _ _ c.if-byte-eq10.true)
 
 returns : tie.Need-returns
-returns c = rw (eq-eqb _ _ c.if1.true)
-
-returns-2 : tie.Need-returns-2
-returns-2 c = rw (ne_eqb _ _ c.if1.false)
+returns c = rw (ne_eqb _ _ c.if-byte-eq10.false)
 
 pub counted_spec : {M : Type 1} → statement M
-counted_spec = tie.close (tie.spec add-result returns returns-2)
+counted_spec = tie.close (tie.spec overflow_add-result returns-then-byte-eq10 returns)

@@ -7,20 +7,20 @@ use borrow.Author.Tests.{eq-eqb, ne_eqb}
 use Rattle.hints.proofs.ends_in_space.Statement.{statement}
 use Rattle.hints.proofs.ends_in_space.Tie as tie
 
-shared-slice-read-if1 : tie.Need-shared-slice-read-if1
-shared-slice-read-if1 c = search rules
+bounds-text-i : tie.Need-bounds-text-i
+bounds-text-i c = search rules
+
+returns-then-text-i-ne32 : tie.Need-returns-then-text-i-ne32
+returns-then-text-i-ne32 c = rw (ne_eqb _ _ c.if-text-i-ne32.true)
+
+overflow_add-i : tie.Need-overflow_add-i
+overflow_add-i c = search rules
+
+byte_at-requires : tie.Need-byte_at-requires
+byte_at-requires c κs = search rules
 
 returns : tie.Need-returns
-returns c = rw (ne_eqb _ _ c.if1.true)
+returns c = rw (eq-eqb _ _ c.before.if-text-i-ne32.false) (ap (λ b. eqb b 10) c.byte_at.ensures)
 
-add-byte-at : tie.Need-overflow-add-byte-at
-add-byte-at c = search rules
-
-byte-at-requires : tie.Need-byte-at-requires
-byte-at-requires c κs = search rules
-
-returns-2 : tie.Need-returns-2
-returns-2 c = rw (eq-eqb _ _ c.before.if1.false) (ap (λ b. eqb b 10) c.byte_at.ensures)
-
-pub ends-in-space-spec : {M : Type 1} → statement M
-ends-in-space-spec = tie.close (tie.spec shared-slice-read-if1 returns add-byte-at byte-at-requires returns-2)
+pub ends_in_space_spec : {M : Type 1} → statement M
+ends_in_space_spec = tie.close (tie.spec bounds-text-i returns-then-text-i-ne32 overflow_add-i byte_at-requires returns)

@@ -11,65 +11,61 @@ use Rattle.hints.specs.laws.Seeing.{some_not_empty, none_empty}
 use Rattle.hints.proofs.find.Statement.{statement}
 use Rattle.hints.proofs.find.Tie as tie
 
-not_empty : (c : tie.Else1) → is_empty c.before.before.args.sheet.now ≡ false
-not_empty c = some_not_empty _ c.if1.false
+not_empty : (c : tie.Else-sheet-eq0) → is_empty c.before.before.args.sheet.now ≡ false
+not_empty c = some_not_empty _ c.if-sheet-eq0.false
 
-not_wide : (c : tie.Else2) → is_wide c.before.before.before.before.args.sheet.now ≡ false
-not_wide c = sym c.before.is_IsWide.ensures ∙ c.if2.false
+not_wide : (c : tie.Else-is_wide) → is_wide c.before.before.before.before.args.sheet.now ≡ false
+not_wide c = sym c.before.is_wide.ensures ∙ c.if-is_wide.false
 
-returns : tie.Need-returns
+returns-then-sheet-eq0 : tie.Need-returns-then-sheet-eq0
 unfolding hint_of
-returns c = rw (none_empty _ c.if1.true)
+returns-then-sheet-eq0 c = rw (none_empty _ c.if-sheet-eq0.true)
 
-is-wide-requires : tie.Need-is-wide-requires
-is-wide-requires c κs = search rules
+is_wide-requires : tie.Need-is_wide-requires
+is_wide-requires c κs = search rules
 
-returns-2 : tie.Need-returns-2
+returns-then-is_wide : tie.Need-returns-then-is_wide
 unfolding hint_of
-returns-2 c = rw (not_empty c.before.before, sym c.before.is_IsWide.ensures ∙ c.if2.true)
-
-slice-aggregate-starts : tie.Need-slice-aggregate-starts
-slice-aggregate-starts c = search rules
+returns-then-is_wide c = rw (not_empty c.before.before, sym c.before.is_wide.ensures ∙ c.if-is_wide.true)
 
 starts-requires : tie.Need-starts-requires
 starts-requires c κs = search rules
 
-returns-3 : tie.Need-returns-3
+returns-then-starts : tie.Need-returns-then-starts
 unfolding hint_of
-returns-3 c =
-    let narrow = c.before.before.before in
-    rw (not_empty narrow.before.before, not_wide narrow, sym c.before.starts.ensures ∙ c.if3.true)
+returns-then-starts c =
+    let narrow = c.before.before.before.before in
+    rw (not_empty narrow.before.before, not_wide narrow, sym c.before.starts.ensures ∙ c.if-starts.true)
 
-returns-4 : tie.Need-returns-4
+returns-then-sheet-gt16384 : tie.Need-returns-then-sheet-gt16384
 unfolding hint_of
-returns-4 c =
+returns-then-sheet-gt16384 c =
     let unmarked = c.before in
-    let narrow = unmarked.before.before.before in
-    rw (not_empty narrow.before.before, not_wide narrow, sym unmarked.before.starts.ensures ∙ unmarked.if3.false, lt-ltb _ _ c.if4.true)
+    let narrow = unmarked.before.before.before.before in
+    rw (not_empty narrow.before.before, not_wide narrow, sym unmarked.before.starts.ensures ∙ unmarked.if-starts.false, lt-ltb _ _ c.if-sheet-gt16384.true)
 
-line-hint-requires : tie.Need-line-hint-requires
-line-hint-requires c κs = let some = c.before.before.before.before.before.before in omega (arith, some.if1.false)
+line_hint-requires : tie.Need-line_hint-requires
+line_hint-requires c κs = omega (arith, c.if-sheet-eq0.false)
 
-returns-5 : tie.Need-returns-5
+returns : tie.Need-returns
 unfolding hint_of
-returns-5 c =
+returns c =
     let short = c.before in
     let unmarked = short.before in
-    let narrow = unmarked.before.before.before in
+    let narrow = unmarked.before.before.before.before in
     rw
-    (not_empty narrow.before.before, not_wide narrow, sym unmarked.before.starts.ensures ∙ unmarked.if3.false, le-ltb _ _ short.if4.false)
-    c.line-hint.ensures
+    (not_empty narrow.before.before, not_wide narrow, sym unmarked.before.starts.ensures ∙ unmarked.if-starts.false, le-ltb _ _ short.if-sheet-gt16384.false)
+    c.line_hint.ensures
 
 pub find_spec : {M : Type 1} → statement M
 find_spec =
     tie.close
     (tie.spec
-    returns
-    is-wide-requires
-    returns-2
-    slice-aggregate-starts
+    returns-then-sheet-eq0
+    is_wide-requires
+    returns-then-is_wide
     starts-requires
-    returns-3
-    returns-4
-    line-hint-requires
-    returns-5)
+    returns-then-starts
+    returns-then-sheet-gt16384
+    line_hint-requires
+    returns)

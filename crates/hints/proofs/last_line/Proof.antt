@@ -6,55 +6,55 @@ use Rattle.hints.specs.Hints.{last_line}
 use Rattle.hints.proofs.last_line.Statement.{statement}
 use Rattle.hints.proofs.last_line.Tie as tie
 
-sub-last : tie.Need-overflow-sub-last
-sub-last c = search rules
+overflow_sub-last : tie.Need-overflow_sub-last
+overflow_sub-last c = search rules
 
-line-of-requires : tie.Need-line-of-requires
-line-of-requires c κs = search rules
+line_of-line-requires : tie.Need-line_of-line-requires
+line_of-line-requires c κs = search rules
 
-shared-slice-read-if1 : tie.Need-shared-slice-read-if1
-shared-slice-read-if1 c = search rules
+bounds-text-last : tie.Need-bounds-text-last
+bounds-text-last c = search rules
+
+returns-then-text-last-ne10 : tie.Need-returns-then-text-last-ne10
+unfolding last_line
+returns-then-text-last-ne10 c = rw (ne_eqb _ _ c.if-text-last-ne10.true, c.before.before.line_of-line.ensures)
+
+returns-then-last-eq0 : tie.Need-returns-then-last-eq0
+unfolding last_line
+returns-then-last-eq0 c =
+    let first = c.before in
+    rw (eq-eqb _ _ first.if-text-last-ne10.false, eq-eqb _ _ c.if-last-eq0.true, first.before.before.line_of-line.ensures)
+
+overflow_sub-last-2 : tie.Need-overflow_sub-last-2
+overflow_sub-last-2 c = search rules
+
+bounds-text-last-2 : tie.Need-bounds-text-last-2
+bounds-text-last-2 c = search rules
+
+returns-then-text-last-eq10 : tie.Need-returns-then-text-last-eq10
+unfolding last_line
+returns-then-text-last-eq10 c =
+    let second = c.before.before in
+    let first = second.before in
+    rw (eq-eqb _ _ first.if-text-last-ne10.false, ne_eqb _ _ second.if-last-eq0.false, eq-eqb _ _ c.if-text-last-eq10.true, first.before.before.line_of-line.ensures)
 
 returns : tie.Need-returns
 unfolding last_line
-returns c = rw (ne_eqb _ _ c.if1.true, c.before.before.Line-of.ensures)
-
-returns-2 : tie.Need-returns-2
-unfolding last_line
-returns-2 c =
-    let first = c.before in
-    rw (eq-eqb _ _ first.if1.false, eq-eqb _ _ c.if2.true, first.before.before.Line-of.ensures)
-
-sub-if3 : tie.Need-overflow-sub-if3
-sub-if3 c = search rules
-
-shared-slice-read-if3 : tie.Need-shared-slice-read-if3
-shared-slice-read-if3 c = search rules
-
-returns-3 : tie.Need-returns-3
-unfolding last_line
-returns-3 c =
+returns c =
     let second = c.before.before in
     let first = second.before in
-    rw (eq-eqb _ _ first.if1.false, ne_eqb _ _ second.if2.false, eq-eqb _ _ c.if3.true, first.before.before.Line-of.ensures)
+    rw (eq-eqb _ _ first.if-text-last-ne10.false, ne_eqb _ _ second.if-last-eq0.false, ne_eqb _ _ c.if-text-last-eq10.false)
 
-returns-4 : tie.Need-returns-4
-unfolding last_line
-returns-4 c =
-    let second = c.before.before in
-    let first = second.before in
-    rw (eq-eqb _ _ first.if1.false, ne_eqb _ _ second.if2.false, ne_eqb _ _ c.if3.false)
-
-pub last-line-spec : {M : Type 1} → statement M
-last-line-spec =
+pub last_line_spec : {M : Type 1} → statement M
+last_line_spec =
     tie.close
     (tie.spec
-    sub-last
-    line-of-requires
-    shared-slice-read-if1
-    returns
-    returns-2
-    sub-if3
-    shared-slice-read-if3
-    returns-3
-    returns-4)
+    overflow_sub-last
+    line_of-line-requires
+    bounds-text-last
+    returns-then-text-last-ne10
+    returns-then-last-eq0
+    overflow_sub-last-2
+    bounds-text-last-2
+    returns-then-text-last-eq10
+    returns)

@@ -9,57 +9,57 @@ use Rattle.hints.specs.laws.Seeing.{feeds, feeds_none, feeds_more, feeds_few}
 use Rattle.hints.proofs.line_of.Statement.{statement}
 use Rattle.hints.proofs.line_of.Tie as tie
 
-abbrev invariant-loop : tie.invariant-loop
+abbrev invariant-loop : tie.invariant-loop-i
 invariant-loop text at feeds₀ i₀ n i = (i ≤ at) × (n ≡ feeds text i)
 
-abbrev decreases-loop : tie.decreases-loop
+abbrev decreases-loop : tie.decreases-loop-i
 decreases-loop text at feeds₀ i₀ n i = at - i
 
-loop-holds : tie.Need-loop-init invariant-loop decreases-loop
-loop-holds c = (omega arith, sym (feeds_none c.before.args.text.now))
+loop-i-init : tie.Need-loop-i-init invariant-loop decreases-loop
+loop-i-init c = (omega arith, sym (feeds_none c.before.args.text.now))
 
-shared-slice-read-counted : tie.Need-shared-slice-read-counted invariant-loop decreases-loop
-shared-slice-read-counted c = search rules
+bounds-text-i : tie.Need-bounds-text-i invariant-loop decreases-loop
+bounds-text-i c = search rules
 
-counted-requires : tie.Need-counted-requires invariant-loop decreases-loop
-counted-requires c κs =
+counted-feeds-requires : tie.Need-counted-feeds-requires invariant-loop decreases-loop
+counted-feeds-requires c κs =
     let loop = c.before.before in
     let start = loop.before in
-    omega (arith, loop.loop.invariant.1, feeds_few start.before.args.text.now loop.loop.i, start.before.requires)
+    omega (arith, loop.loop-i.invariant.1, feeds_few start.before.args.text.now loop.loop-i.i, start.before.requires)
 
-add-i : tie.Need-overflow-add-i invariant-loop decreases-loop
-add-i c = search rules
+overflow_add-i : tie.Need-overflow_add-i invariant-loop decreases-loop
+overflow_add-i c = search rules
 
-loop-less : tie.Need-loop-smaller invariant-loop decreases-loop
-loop-less c = search rules
+loop-i-smaller : tie.Need-loop-i-smaller invariant-loop decreases-loop
+loop-i-smaller c = search rules
 
-loop-again : tie.Need-loop-preserved invariant-loop decreases-loop
-loop-again c =
+loop-i-preserved : tie.Need-loop-i-preserved invariant-loop decreases-loop
+loop-i-preserved c =
     let loop = c.before.before.before in
     let text = loop.before.before.args.text.now in
-    (omega arith, c.counted.ensures ∙ rw loop.loop.invariant.1 (sym (feeds_more text loop.loop.i (omega arith))))
+    (omega arith, c.counted-feeds.ensures ∙ rw loop.loop-i.invariant.1 (sym (feeds_more text loop.loop-i.i (omega arith))))
 
-add-result : tie.Need-overflow-add-result invariant-loop decreases-loop
-add-result c = omega (arith, c.before.loop.invariant.1, feeds_few c.before.before.before.args.text.now c.before.loop.i)
+overflow_add-result : tie.Need-overflow_add-result invariant-loop decreases-loop
+overflow_add-result c = omega (arith, c.before.loop-i.invariant.1, feeds_few c.before.before.before.args.text.now c.before.loop-i.i)
 
 returns : tie.Need-returns invariant-loop decreases-loop
 unfolding line_of
 returns c =
     let text = c.before.before.before.args.text.now in
-    let reached : c.before.loop.i ≡ c.before.before.before.args.at = omega arith in
-    omega (arith, c.before.loop.invariant.1, ap (feeds text) reached)
+    let reached : c.before.loop-i.i ≡ c.before.before.before.args.at = omega arith in
+    omega (arith, c.before.loop-i.invariant.1, ap (feeds text) reached)
 
-pub line-of-spec : {M : Type 1} → statement M
-line-of-spec =
+pub line_of_spec : {M : Type 1} → statement M
+line_of_spec =
     tie.close
     (tie.spec
     invariant-loop
     decreases-loop
-    loop-holds
-    shared-slice-read-counted
-    counted-requires
-    add-i
-    loop-less
-    loop-again
-    add-result
+    loop-i-init
+    bounds-text-i
+    counted-feeds-requires
+    overflow_add-i
+    loop-i-smaller
+    loop-i-preserved
+    overflow_add-result
     returns)

@@ -10,51 +10,51 @@ use Rattle.hints.specs.laws.Seeing.{space_here, space_past, space_end}
 use Rattle.hints.proofs.space_at.Statement.{statement}
 use Rattle.hints.proofs.space_at.Tie as tie
 
-abbrev invariant-loop : tie.invariant-loop
+abbrev invariant-loop : tie.invariant-loop-i
 invariant-loop text i₀ i = i + space_at (drop i text) ≡ space_at text
 
-abbrev decreases-loop : tie.decreases-loop
+abbrev decreases-loop : tie.decreases-loop-i
 decreases-loop text i₀ i = length text - i
 
-loop-holds : tie.Need-loop-init invariant-loop decreases-loop
-loop-holds c = search rules
+loop-i-init : tie.Need-loop-i-init invariant-loop decreases-loop
+loop-i-init c = search rules
 
-ends-in-space-requires : tie.Need-ends-in-space-requires invariant-loop decreases-loop
-ends-in-space-requires c κs = search rules
+ends_in_space-requires : tie.Need-ends_in_space-requires invariant-loop decreases-loop
+ends_in_space-requires c κs = search rules
+
+returns-then-ends_in_space : tie.Need-returns-then-ends_in_space invariant-loop decreases-loop
+returns-then-ends_in_space c =
+    let loop = c.before.before.before in
+    let text = loop.before.before.args.text.now in
+    omega (arith, space_here text loop.loop-i.i c.before.before.loop-i-test.true (sym c.before.ends_in_space.ensures ∙ c.if-ends_in_space.true), loop.loop-i.invariant)
+
+overflow_add-i : tie.Need-overflow_add-i invariant-loop decreases-loop
+overflow_add-i c = search rules
+
+loop-i-smaller : tie.Need-loop-i-smaller invariant-loop decreases-loop
+loop-i-smaller c = search rules
+
+loop-i-preserved : tie.Need-loop-i-preserved invariant-loop decreases-loop
+loop-i-preserved c =
+    let loop = c.before.before.before in
+    let text = loop.before.before.args.text.now in
+    omega (arith, space_past text loop.loop-i.i c.before.before.loop-i-test.true (sym c.before.ends_in_space.ensures ∙ c.if-ends_in_space.false), loop.loop-i.invariant)
 
 returns : tie.Need-returns invariant-loop decreases-loop
 returns c =
-    let loop = c.before.before.before in
-    let text = loop.before.before.args.text.now in
-    omega (arith, space_here text loop.loop.i c.before.before.loop-test.true (sym c.before.ends-in-space.ensures ∙ c.if1.true), loop.loop.invariant)
-
-add-i : tie.Need-overflow-add-i invariant-loop decreases-loop
-add-i c = search rules
-
-loop-less : tie.Need-loop-smaller invariant-loop decreases-loop
-loop-less c = search rules
-
-loop-again : tie.Need-loop-preserved invariant-loop decreases-loop
-loop-again c =
-    let loop = c.before.before.before in
-    let text = loop.before.before.args.text.now in
-    omega (arith, space_past text loop.loop.i c.before.before.loop-test.true (sym c.before.ends-in-space.ensures ∙ c.if1.false), loop.loop.invariant)
-
-returns-2 : tie.Need-returns-2 invariant-loop decreases-loop
-returns-2 c =
     let text = c.before.before.before.args.text.now in
-    omega (arith, space_end text c.before.loop.i c.loop-test.false, c.before.loop.invariant)
+    omega (arith, space_end text c.before.loop-i.i c.loop-i-test.false, c.before.loop-i.invariant)
 
-pub space-at-spec : {M : Type 1} → statement M
-space-at-spec =
+pub space_at_spec : {M : Type 1} → statement M
+space_at_spec =
     tie.close
     (tie.spec
     invariant-loop
     decreases-loop
-    loop-holds
-    ends-in-space-requires
-    returns
-    add-i
-    loop-less
-    loop-again
-    returns-2)
+    loop-i-init
+    ends_in_space-requires
+    returns-then-ends_in_space
+    overflow_add-i
+    loop-i-smaller
+    loop-i-preserved
+    returns)

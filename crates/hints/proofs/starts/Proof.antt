@@ -8,18 +8,18 @@ use Rattle.hints.specs.laws.Seeing.{too_short}
 use Rattle.hints.proofs.starts.Statement.{statement}
 use Rattle.hints.proofs.starts.Tie as tie
 
-returns : tie.Need-returns
-returns c = sym (too_short _ _ c.if1.true)
+returns-then-text-n : tie.Need-returns-then-text-n
+returns-then-text-n c = sym (too_short _ _ c.if-text-n.true)
 
-slice-aggregate-same : tie.Need-slice-aggregate-same
-slice-aggregate-same c = sym (length-take-le _ _ c.before.if1.false)
+slice_bounds-same-end : tie.Need-slice_bounds-same-end
+slice_bounds-same-end c = sym (length-take-le _ _ c.if-text-n.false)
 
 same-requires : tie.Need-same-requires
 same-requires c κs = search rules
 
-returns-2 : tie.Need-returns-2
+returns : tie.Need-returns
 unfolding starts_with
-returns-2 c = search rules
+returns c = search rules
 
-pub starts-spec : {M : Type 1} → statement M
-starts-spec = tie.close (tie.spec returns slice-aggregate-same same-requires returns-2)
+pub starts_spec : {M : Type 1} → statement M
+starts_spec = tie.close (tie.spec returns-then-text-n slice_bounds-same-end same-requires returns)

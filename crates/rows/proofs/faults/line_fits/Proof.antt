@@ -10,9 +10,6 @@ use Rattle.rows.specs.declared.Tail.{Tail}
 use Rattle.rows.proofs.faults.line_fits.Statement.{statement}
 use Rattle.rows.proofs.faults.line_fits.Tie as tie
 
-slice-aggregate-same : tie.Need-slice-aggregate-same
-slice-aggregate-same c = search rules
-
 same-requires : tie.Need-same-requires
 same-requires c κs = search rules
 
@@ -39,7 +36,6 @@ pub line_fits_spec : {M : Type 1} → statement M
 line_fits_spec =
     tie.close
     (tie.spec
-    slice-aggregate-same
     same-requires
     returns-then-i-eq0
     overflow_sub-row

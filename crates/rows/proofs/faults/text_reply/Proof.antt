@@ -38,12 +38,12 @@ least c = rw (rows_eq (counted-rows c)) at c.before.if-rows-lt3.false
 most : (c : tie.Else-rows-gt514) → row_count (sheet c) ≤ 514
 most c = rw (rows_eq (counted-rows c)) at c.if-rows-gt514.false
 
-bits-eq : (c : tie.Else-rows-gt514) → message_bits (sheet c) ≡ (counted-rows c).row_count.result - 2
+bits-eq : (c : tie.Else-rows-gt514) → message_bits (sheet c) ≡ (counted-rows c).row_count-rows.result - 2
 unfolding message_bits
 bits-eq c = ap (λ (n : ℕ). n - 2) (sym (rows_eq (counted-rows c)))
 
-few : (c : tie.Else-rows-gt514) → (told c).pieces.result.count - 1 ≤ 515
-few c = omega (arith, (counted-rows c).row_count.ensures, c.if-rows-gt514.false)
+few : (c : tie.Else-rows-gt514) → (told c).pieces-cut.result.count - 1 ≤ 515
+few c = omega (arith, (counted-rows c).row_count-rows.ensures, c.if-rows-gt514.false)
 
 none_found : (c : tie.Else-fault-lines) → fault_from (message_bits (sheet c.before.before)) 0 (lines_of (sheet c.before.before)) ≡ none
 none_found c =
@@ -100,7 +100,7 @@ returns-then-last-sheet c =
     let ran = c.before.before in
     let fits = ran.before in
     let s = sheet fits in
-    let counted = (told fits).pieces.ensures in
+    let counted = (told fits).pieces-cut.ensures in
     let unended = last_empty counted ∙ lt-leb _ _ c.if-last-sheet.true in
     (ap (λ (n : ℕ). Refused (Text (n + 1))) (sym (lines_are counted)) ∙ text_open s (short fits) (least fits) (most fits) (none_found c.before) unended, omega (arith, few fits))
 
@@ -110,7 +110,7 @@ returns c =
     let ran = c.before.before in
     let fits = ran.before in
     let s = sheet fits in
-    let counted = (told fits).pieces.ensures in
+    let counted = (told fits).pieces-cut.ensures in
     let whole = last_empty counted ∙ le-leb _ _ c.if-last-sheet.false in
     (text_done s (short fits) (least fits) (most fits) (none_found c.before) whole, omega arith)
 

@@ -21,9 +21,6 @@ slice_bounds-same-start c = search rules
 slice_bounds-same-end : tie.Need-slice_bounds-same-end
 slice_bounds-same-end c = search rules
 
-slice-aggregate-same : tie.Need-slice-aggregate-same
-slice-aggregate-same c = search rules
-
 same-requires : tie.Need-same-requires
 same-requires c κs = search rules
 
@@ -39,6 +36,5 @@ dash_at_spec =
     slice_bounds-same-count
     slice_bounds-same-start
     slice_bounds-same-end
-    slice-aggregate-same
     same-requires
     returns)

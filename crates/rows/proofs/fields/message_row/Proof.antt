@@ -30,7 +30,7 @@ dashed : (c : tie.Else-not-dash_at) → true ≡ dash (field_at (start1 c).args.
 dashed c = sym (not-false _ c.if-not-dash_at.false-raw) ∙ c.before.dash_at.ensures
 
 abbrev at2 : tie.In-Is → tie.Else-not-dash_at
-at2 c = c.before.before.before.before
+at2 c = c.before.before
 
 abbrev start2 : tie.In-Is → tie.Start
 start2 c = start1 (at2 c)
@@ -39,7 +39,7 @@ read2 : (c : tie.In-Is) → some c.in-Is.to ≡ natural (field_at (start2 c).arg
 read2 c = ap natural_of (sym c.in-Is.is) ∙ c.natural_at.ensures
 
 abbrev at3 : tie.In-Is-value_at → tie.In-Is
-at3 c = c.before.before.before.before
+at3 c = c.before.before
 
 abbrev start3 : tie.In-Is-value_at → tie.Start
 start3 c = start2 (at3 c)
@@ -48,7 +48,7 @@ read3 : (c : tie.In-Is-value_at) → some c.in-Is-value_at.sys ≡ map received_
 read3 c = ap integer_of (sym c.in-Is-value_at.is) ∙ c.value_at.ensures
 
 abbrev at4 : tie.In-Is-value_at-2 → tie.In-Is-value_at
-at4 c = c.before.before.before.before
+at4 c = c.before.before
 
 abbrev start4 : tie.In-Is-value_at-2 → tie.Start
 start4 c = start3 (at4 c)
@@ -57,7 +57,7 @@ read4 : (c : tie.In-Is-value_at-2) → some c.in-Is-value_at-2.par ≡ map recei
 read4 c = ap integer_of (sym c.in-Is-value_at-2.is) ∙ c.value_at-2.ensures
 
 abbrev at5 : tie.In-Is-value_at-3 → tie.In-Is-value_at-2
-at5 c = c.before.before.before.before
+at5 c = c.before.before
 
 abbrev start5 : tie.In-Is-value_at-3 → tie.Start
 start5 c = start4 (at5 c)
@@ -191,8 +191,8 @@ returns c =
     let prev2 = at3 prev3 in
     let prev1 = at2 prev2 in
     let start = start1 prev1 in
-    let f0 : SFits w32 prev3.before.sys-1.given.0.0 = search rules in
-    let f1 : SFits w32 prev4.before.par-1.given.0.0 = search rules in
+    let f0 : SFits w32 prev3.in-Is-value_at.sys = search rules in
+    let f1 : SFits w32 prev4.in-Is-value_at-2.par = search rules in
     let f2 : SFits w32 prev5.in-Is-value_at-3.par2 = search rules in
     rw (to_z-of_z f0, to_z-of_z f1, to_z-of_z f2)
     (message_by_lem start.args.k start.args.line.now (begun prev1.before.before) (dashed prev1) (read2 prev2) (read3 prev3) (read4 prev4) (read5 prev5))

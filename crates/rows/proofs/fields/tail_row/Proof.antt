@@ -29,7 +29,7 @@ dashed : (c : tie.Else-not-dash_at) → true ≡ dash (field_at (start1 c).args.
 dashed c = sym (not-false _ c.if-not-dash_at.false-raw) ∙ c.before.dash_at.ensures
 
 abbrev at2 : tie.In-Is → tie.Else-not-dash_at
-at2 c = c.before.before.before.before
+at2 c = c.before.before
 
 abbrev start2 : tie.In-Is → tie.Start
 start2 c = start1 (at2 c)
@@ -38,7 +38,7 @@ read2 : (c : tie.In-Is) → some c.in-Is.sys ≡ integer (field_at (start2 c).ar
 read2 c = ap integer_of (sym c.in-Is.is) ∙ c.integer_at.ensures
 
 abbrev at3 : tie.In-Is-integer_at → tie.In-Is
-at3 c = c.before.before.before.before
+at3 c = c.before.before
 
 abbrev start3 : tie.In-Is-integer_at → tie.Start
 start3 c = start2 (at3 c)
@@ -47,7 +47,7 @@ read3 : (c : tie.In-Is-integer_at) → some c.in-Is-integer_at.par ≡ integer (
 read3 c = ap integer_of (sym c.in-Is-integer_at.is) ∙ c.integer_at-2.ensures
 
 abbrev at4 : tie.In-Is-integer_at-2 → tie.In-Is-integer_at
-at4 c = c.before.before.before.before
+at4 c = c.before.before
 
 abbrev start4 : tie.In-Is-integer_at-2 → tie.Start
 start4 c = start3 (at4 c)
@@ -56,7 +56,7 @@ read4 : (c : tie.In-Is-integer_at-2) → some c.in-Is-integer_at-2.par2 ≡ inte
 read4 c = ap integer_of (sym c.in-Is-integer_at-2.is) ∙ c.integer_at-3.ensures
 
 abbrev at5 : tie.In-Is-integer_at-3 → tie.In-Is-integer_at-2
-at5 c = c.before.before.before.before
+at5 c = c.before.before
 
 abbrev start5 : tie.In-Is-integer_at-3 → tie.Start
 start5 c = start4 (at5 c)
@@ -190,9 +190,9 @@ returns c =
     let prev2 = at3 prev3 in
     let prev1 = at2 prev2 in
     let start = start1 prev1 in
-    let f0 : SFits w32 prev2.before.sys-1.given.0.0 = search rules in
-    let f1 : SFits w32 prev3.before.par-1.given.0.0 = search rules in
-    let f2 : SFits w32 prev4.before.par2-1.given.0.0 = search rules in
+    let f0 : SFits w32 prev2.in-Is.sys = search rules in
+    let f1 : SFits w32 prev3.in-Is-integer_at.par = search rules in
+    let f2 : SFits w32 prev4.in-Is-integer_at-2.par2 = search rules in
     let f3 : SFits w32 prev5.in-Is-integer_at-3.sys2 = search rules in
     rw (to_z-of_z f0, to_z-of_z f1, to_z-of_z f2, to_z-of_z f3)
     (tail_by_lem start.args.k start.args.line.now (begun prev1.before.before) (dashed prev1) (read2 prev2) (read3 prev3) (read4 prev4) (read5 prev5))
