@@ -28,33 +28,33 @@ takes-requires c κs = search rules
 decode-requires : tie.Need-decode-requires
 decode-requires c κs = search rules
 
-same_length : tie.Need-same-length
-same_length c = search rules
+shape_of-marks-then-not-takes : tie.Need-shape_of-marks-then-not-takes
+shape_of-marks-then-not-takes c = search rules
 
-same-length-2 : tie.Need-same-length-2
-same-length-2 c = search rules
+shape_of-margins-then-not-takes : tie.Need-shape_of-margins-then-not-takes
+shape_of-margins-then-not-takes c = search rules
 
-same-length-3 : tie.Need-same-length-3
-same-length-3 c = search rules
+shape_of-extrinsics-then-not-takes : tie.Need-shape_of-extrinsics-then-not-takes
+shape_of-extrinsics-then-not-takes c = search rules
 
-same-length-4 : tie.Need-same-length-4
-same-length-4 c = search rules
+shape_of-work-then-not-takes : tie.Need-shape_of-work-then-not-takes
+shape_of-work-then-not-takes c = search rules
 
-returns : tie.Need-returns
-returns c = c.before.before.before.before.before.decode.ensures
+returns-then-not-takes : tie.Need-returns-then-not-takes
+returns-then-not-takes c = c.decode.ensures
 
 -- ---- one that is
 
-module _ (c : tie.Else1) where
+module _ (c : tie.Else-not-takes) where
   abbrev start : tie.Start
   start = c.before.before.before.before.before
 
   is : IsButterfly start.args.format.states start.args.format.outputs start.args.next.now start.args.words.now
-  is = (c.before.takes.ensures (not-false _ c.if1.false)).0
+  is = (c.takes.ensures (not-false _ c.if-not-takes.false-raw)).0
 
   taken : Accepted (call start) (lent start)
   taken =
-      (c.before.takes.ensures (not-false _ c.if1.false)).1 (lent start)
+      (c.takes.ensures (not-false _ c.if-not-takes.false-raw)).1 (lent start)
       (record { marks_sized = refl; margins_sized = refl; extrinsics_sized = refl; work_sized = refl })
 
 run-requires : tie.Need-run-requires
@@ -63,38 +63,38 @@ run-requires c κs =
     let a = taken branch in
     (is branch, (a.pass, (a.work_long, (a.marks_long, (a.margins_long, a.extrinsics_long)))))
 
-same-length-5 : tie.Need-same-length-5
-same-length-5 c = search rules
+shape_of-marks : tie.Need-shape_of-marks
+shape_of-marks c = search rules
 
-same-length-6 : tie.Need-same-length-6
-same-length-6 c = search rules
+shape_of-margins : tie.Need-shape_of-margins
+shape_of-margins c = search rules
 
-same-length-7 : tie.Need-same-length-7
-same-length-7 c = search rules
+shape_of-extrinsics : tie.Need-shape_of-extrinsics
+shape_of-extrinsics c = search rules
 
-same-length-8 : tie.Need-same-length-8
-same-length-8 c = search rules
+shape_of-work : tie.Need-shape_of-work
+shape_of-work c = search rules
 
-returns-2 : tie.Need-returns-2
-returns-2 c =
+returns : tie.Need-returns
+returns c =
     let ran = c.before.before.before.before.before in
     let branch = ran.before.before.before.before.before in
     ran.run.ensures ∙ decode_walked _ _ (accepts _ _ (taken branch))
 
-pub decode-spec : {M : Type 1} → statement M
-decode-spec =
+pub decode_spec : {M : Type 1} → statement M
+decode_spec =
     tie.close
     (tie.spec
     takes-requires
     decode-requires
-    same_length
-    same-length-2
-    same-length-3
-    same-length-4
-    returns
+    shape_of-marks-then-not-takes
+    shape_of-margins-then-not-takes
+    shape_of-extrinsics-then-not-takes
+    shape_of-work-then-not-takes
+    returns-then-not-takes
     run-requires
-    same-length-5
-    same-length-6
-    same-length-7
-    same-length-8
-    returns-2)
+    shape_of-marks
+    shape_of-margins
+    shape_of-extrinsics
+    shape_of-work
+    returns)

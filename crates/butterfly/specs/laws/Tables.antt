@@ -89,8 +89,8 @@ is_minus_lem false = refl
 -- ---- a section
 
 -- what the values of a section tell of its own bit, and of its parity
-abbrev pub field_own : Table → Values → ℕ → ℤ
-field_own t v k = apriori_at v k +ℤ channel_at t v k 0
+abbrev pub own_at : Table → Values → ℕ → ℤ
+own_at t v k = apriori_at v k +ℤ channel_at t v k 0
 
 abbrev pub other_at : Table → Values → ℕ → ℤ
 other_at t v k = channel_at t v k 1
@@ -140,7 +140,7 @@ opposed x y false false = simp ints (omega arith)
 
 module _ (t : Table) (v : Values) (k : ℕ) (two : t.outputs ≡ 2) where
   branch_is :
-      (s b p w : ℕ) → word t s b ≡ w → Read w b p → branch_metric t v k s b ≡ signed b (field_own t v k) +ℤ signed p (other_at t v k)
+      (s b p w : ℕ) → word t s b ≡ w → Read w b p → branch_metric t v k s b ≡ signed b (own_at t v k) +ℤ signed p (other_at t v k)
   unfolding branch_metric word_metric
   branch_is s b p w read (own, parity) = rw (read, two, own, parity) (together _ _ _ b)
 
@@ -154,7 +154,7 @@ module _ (t : Table) (v : Values) (k : ℕ) (two : t.outputs ≡ 2) where
     abbrev p : Bool
     p = zero_parity (straight_word t.next t.words i)
 
-    wing_is : Wing (next_state t) (branch_metric t v k) half i z (signed (cond z 0 1) (field_own t v k) +ℤ signed (cond p 0 1) (other_at t v k))
+    wing_is : Wing (next_state t) (branch_metric t v k) half i z (signed (cond z 0 1) (own_at t v k) +ℤ signed (cond p 0 1) (other_at t v k))
     unfolding next_state word
     wing_is =
         let words = wing.has in
@@ -176,7 +176,7 @@ module _ (t : Table) (v : Values) (k : ℕ) (two : t.outputs ≡ 2) where
 
   pub table_wings :
       {half : ℕ} {signs : List ℤ} → ((i : ℕ) → i < half → IsWing t.next t.words half i) → AreSigns t.next t.words half signs
-      → Wings (next_state t) (branch_metric t v k) half signs (field_own t v k) (other_at t v k)
+      → Wings (next_state t) (branch_metric t v k) half signs (own_at t v k) (other_at t v k)
   table_wings wing are = record {
     wing = λ i l.
         rw (

@@ -19,63 +19,63 @@ use Rattle.butterfly.specs.laws.Tables.{IsButterfly}
 use Rattle.butterfly.proofs.checks.takes.Statement.{statement}
 use Rattle.butterfly.proofs.checks.takes.Tie as tie
 
-is-butterfly-requires : tie.Need-is-butterfly-requires
-is-butterfly-requires c κs = search rules
+is_butterfly-requires : tie.Need-is_butterfly-requires
+is_butterfly-requires c κs = search rules
 
-returns : tie.Need-returns
-returns c e = absurd (false≢true e)
+returns-then-not-is_butterfly : tie.Need-returns-then-not-is_butterfly
+returns-then-not-is_butterfly c e = absurd (false≢true e)
 
-lists-fit-requires : tie.Need-lists-fit-requires
-lists-fit-requires c κs = search rules
+lists_fit-lists-requires : tie.Need-lists_fit-lists-requires
+lists_fit-lists-requires c κs = search rules
 
-returns-2 : tie.Need-returns-2
-returns-2 c e = absurd (false≢true e)
+returns-then-not-lists : tie.Need-returns-then-not-lists
+returns-then-not-lists c e = absurd (false≢true e)
 
-table-reply-requires : tie.Need-table-reply-requires
-table-reply-requires c κs = search rules
+table_reply-table-requires : tie.Need-table_reply-table-requires
+table_reply-table-requires c κs = search rules
 
-values-reply-requires : tie.Need-values-reply-requires
-values-reply-requires c κs = search rules
+values_reply-values-requires : tie.Need-values_reply-values-requires
+values_reply-values-requires c κs = search rules
 
-first-of-requires : tie.Need-first-of-requires
-first-of-requires c κs = search rules
+first_of-requires : tie.Need-first_of-requires
+first_of-requires c κs = search rules
 
-enum_told : tie.Need-enum-told
-enum_told c = search rules
+enum_told-1 : tie.Need-enum_told-1
+enum_told-1 c = search rules
 
-enum-told-2 : tie.Need-enum-told-2
-enum-told-2 c = search rules
+enum_told-in-Refused : tie.Need-enum_told-in-Refused
+enum_told-in-Refused c = search rules
 
 -- ---- what the tests and the replies have told
 
-module _ (c : tie.After-enum-told) where
-  abbrev all : tie.After-first-of
-  all = c.before.before
+module _ (c : tie.In-Done) where
+  abbrev all : tie.After-first_of
+  all = c.before
 
-  abbrev on-table : tie.After-table-reply
+  abbrev on-table : tie.After-table_reply-table
   on-table = all.before.before
 
-  abbrev measured : tie.Else2
+  abbrev measured : tie.Else-not-lists
   measured = on-table.before
 
-  abbrev asked : tie.Else1
+  abbrev asked : tie.Else-not-is_butterfly
   asked = measured.before.before
 
   abbrev start : tie.Start
   start = asked.before.before.before.before
 
   is : IsButterfly start.args.format.states start.args.format.outputs start.args.next.now start.args.words.now
-  is = asked.before.is-butterfly.ensures (not-false _ asked.if1.left)
+  is = asked.before.is_butterfly.ensures (not-false _ asked.if-not-is_butterfly.false-raw)
 
   accepted :
       (l : Lent) → Sized l start.args.marks start.args.margins start.args.extrinsics start.args.work
       → Accepted (lone_call_of start.args.format start.args.next.now start.args.words.now start.args.channel.now start.args.apriori.now) l
   unfolding table_checks Each
   accepted l sized =
-      let (Table-done, values_done) = (then_is_done _ _).0 (sym all.first_of_lem.ensures ∙ c.enum_told.given.1) in
-      let (shape, (branches, end)) = each_holds (table_checks _) (sym on-table.table-reply.ensures ∙ Table-done) in
-      let (channel_small, (apriori_small, rest)) = each_holds (channel_check _ ∷ apriori_check _ ∷ []) (sym all.before.values-reply.ensures ∙ values_done) in
-      let lists = sym measured.before.lists_fit_lem.ensures ∙ not-false _ measured.if2.left in
+      let (Table-done, values_done) = (then_is_done _ _).0 (sym all.first_of.ensures ∙ c.in-Done.is) in
+      let (shape, (branches, end)) = each_holds (table_checks _) (sym on-table.table_reply-table.ensures ∙ Table-done) in
+      let (channel_small, (apriori_small, rest)) = each_holds (channel_check _ ∷ apriori_check _ ∷ []) (sym all.before.values_reply-values.ensures ∙ values_done) in
+      let lists = sym measured.before.lists_fit-lists.ensures ∙ not-false _ measured.if-not-lists.false-raw in
       let (up-to-extrinsics, work) = and_both _ _ lists in
       let (up-to-margins, extrinsics) = and_both _ _ up-to-extrinsics in
       let (up-to-marks, margins) = and_both _ _ up-to-margins in
@@ -98,24 +98,24 @@ module _ (c : tie.After-enum-told) where
         work_long = sized.work_sized ∙ eqb-true _ _ work;
       }
 
-returns-3 : tie.Need-returns-3
-returns-3 c e = (is c, accepted c)
+returns-in-Done : tie.Need-returns-in-Done
+returns-in-Done c e = (is c, accepted c)
 
-returns-4 : tie.Need-returns-4
-returns-4 c e = absurd (false≢true e)
+returns-in-Refused : tie.Need-returns-in-Refused
+returns-in-Refused c e = absurd (false≢true e)
 
-pub takes-spec : {M : Type 1} → statement M
-takes-spec =
+pub takes_spec : {M : Type 1} → statement M
+takes_spec =
     tie.close
     (tie.spec
-    is-butterfly-requires
-    returns
-    lists-fit-requires
-    returns-2
-    table-reply-requires
-    values-reply-requires
-    first-of-requires
-    enum_told
-    enum-told-2
-    returns-3
-    returns-4)
+    is_butterfly-requires
+    returns-then-not-is_butterfly
+    lists_fit-lists-requires
+    returns-then-not-lists
+    table_reply-table-requires
+    values_reply-values-requires
+    first_of-requires
+    enum_told-1
+    enum_told-in-Refused
+    returns-in-Done
+    returns-in-Refused)

@@ -12,61 +12,61 @@ use Rattle.siso.proofs.Working.{saved_none, saved_more}
 use Rattle.butterfly.proofs.choice.save.Statement.{statement}
 use Rattle.butterfly.proofs.choice.save.Tie as tie
 
-abbrev invariant-loop : tie.invariant-loop
+abbrev invariant-loop : tie.invariant-loop-s
 invariant-loop states work₀ at m s₀ work s = (s ≤ states) × (length work ≡ length work₀) × Saved m s at work₀ work
 
-abbrev decreases-loop : tie.decreases-loop
+abbrev decreases-loop : tie.decreases-loop-s
 decreases-loop states work₀ at m s₀ work s = states - s
 
-loop-holds : tie.Need-loop-init invariant-loop decreases-loop
-loop-holds c = (omega arith, refl, saved_none)
+loop-s-init : tie.Need-loop-s-init invariant-loop decreases-loop
+loop-s-init c = (omega arith, refl, saved_none)
 
-mul-work : tie.Need-overflow-mul-work invariant-loop decreases-loop
-mul-work c = search rules
+offset_bounds-m-s : tie.Need-offset_bounds-m-s invariant-loop decreases-loop
+offset_bounds-m-s c = search rules
 
-array-copy-out-work : tie.Need-array-copy-out-work invariant-loop decreases-loop
-array-copy-out-work c = search rules
+bounds-m-s : tie.Need-bounds-m-s invariant-loop decreases-loop
+bounds-m-s c = search rules
 
-add-t12 : tie.Need-overflow-add-t12 invariant-loop decreases-loop
-add-t12 c = search rules
+overflow_add-at : tie.Need-overflow_add-at invariant-loop decreases-loop
+overflow_add-at c = search rules
 
-mul-t13 : tie.Need-overflow-mul-t13 invariant-loop decreases-loop
-mul-t13 c = search rules
+offset_bounds-work-at : tie.Need-offset_bounds-work-at invariant-loop decreases-loop
+offset_bounds-work-at c = search rules
 
-slice-set-from-work : tie.Need-slice-set-from-work invariant-loop decreases-loop
-slice-set-from-work c = search rules
+bounds-work-at : tie.Need-bounds-work-at invariant-loop decreases-loop
+bounds-work-at c = search rules
 
-add-s : tie.Need-overflow-add-s invariant-loop decreases-loop
-add-s c = search rules
+overflow_add-s : tie.Need-overflow_add-s invariant-loop decreases-loop
+overflow_add-s c = search rules
 
-loop-less : tie.Need-loop-smaller invariant-loop decreases-loop
-loop-less c = search rules
+loop-s-smaller : tie.Need-loop-s-smaller invariant-loop decreases-loop
+loop-s-smaller c = search rules
 
-loop-again : tie.Need-loop-preserved invariant-loop decreases-loop
-loop-again c =
-    let known = c.before.before.loop.invariant in
-    (omega arith, simp length-set known.1, rw (to_z-of_z (fits_of c.work.given)) (saved_more (slice-set-from-work c) known.2))
+loop-s-preserved : tie.Need-loop-s-preserved invariant-loop decreases-loop
+loop-s-preserved c =
+    let known = c.loop-s.invariant in
+    (omega arith, simp length-set known.1, rw (to_z-of_z (fits_of c.work-1.given)) (saved_more (bounds-work-at c) known.2))
 
-same_length : tie.Need-same-length invariant-loop decreases-loop
-same_length c = search rules
+shape_of-work : tie.Need-shape_of-work invariant-loop decreases-loop
+shape_of-work c = search rules
 
 returns : tie.Need-returns invariant-loop decreases-loop
-returns c = let end : c.before.loop.s ≡ c.before.before.args.states = omega (arith, c.loop-test.false) in rw end at c.before.loop.invariant.2
+returns c = let end : c.loop-s.s ≡ c.args.states = omega (arith, c.loop-s-test.false) in rw end at c.loop-s.invariant.2
 
-pub save-spec : {M : Type 1} → statement M
-save-spec =
+pub save_spec : {M : Type 1} → statement M
+save_spec =
     tie.close
     (tie.spec
     invariant-loop
     decreases-loop
-    loop-holds
-    mul-work
-    array-copy-out-work
-    add-t12
-    mul-t13
-    slice-set-from-work
-    add-s
-    loop-less
-    loop-again
-    same_length
+    loop-s-init
+    offset_bounds-m-s
+    bounds-m-s
+    overflow_add-at
+    offset_bounds-work-at
+    bounds-work-at
+    overflow_add-s
+    loop-s-smaller
+    loop-s-preserved
+    shape_of-work
     returns)

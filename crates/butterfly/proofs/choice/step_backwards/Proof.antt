@@ -11,23 +11,23 @@ use Rattle.butterfly.proofs.choice.step_backwards.Tie as tie
 
 -- ---- what the tests tell
 
-every-reached : (c : tie.Else1) → c.before.args.plain ≡ true
-every-reached c = not-false _ c.if1.false
+every-reached : (c : tie.Else-not-plain) → c.args.plain ≡ true
+every-reached c = not-false _ c.if-not-plain.false-raw
 
-house-two : (c : tie.Then2) → c.before.before.args.kind.half ≡ 2
-house-two c = (c.before.before.requires.0.house_is c.if2.true).0
+house-two : (c : tie.Then-kind) → c.args.kind.half ≡ 2
+house-two c = (c.requires.0.house_is c.if-kind.true).0
 
-gpp-four : (c : tie.Then3) → c.before.before.before.args.kind.half ≡ 4
-gpp-four c = (c.before.before.before.requires.0.gpp_is c.if3.true).0
+gpp-four : (c : tie.Then-kind-2) → c.args.kind.half ≡ 4
+gpp-four c = (c.requires.0.gpp_is c.if-kind-2.true).0
 
-two : (c : tie.Then4) → c.before.before.before.before.before.args.kind.half ≡ 2
-two c = c.if4.true
+two : (c : tie.Then-kind-eq2) → c.args.kind.half ≡ 2
+two c = c.if-kind-eq2.true
 
-four : (c : tie.Then5) → c.before.before.before.before.before.before.before.args.kind.half ≡ 4
-four c = c.if5.true
+four : (c : tie.Then-kind-eq4) → c.args.kind.half ≡ 4
+four c = c.if-kind-eq4.true
 
-eight : (c : tie.Else5) → c.before.before.before.before.before.before.before.args.kind.half ≡ 8
-eight c = c.before.before.before.before.before.before.before.requires.0.else_eight c.before.before.if4.false c.if5.false
+eight : (c : tie.Else-kind-eq4) → c.args.kind.half ≡ 8
+eight c = c.requires.0.else_eight c.if-kind-eq2.false c.if-kind-eq4.false
 
 -- ---- where a state may be unreached
 
@@ -39,8 +39,8 @@ backwards-requires c κs =
     let (known, (own_small, (other_small, (small, (room, (small-before, reached)))))) = start.requires in
     (simp plain (known_ready own_small other_small known), (small, (room, (small-before, λ e. absurd (false≢true e)))))
 
-returns : tie.Need-returns
-returns c =
+returns-then-not-plain : tie.Need-returns-then-not-plain
+returns-then-not-plain c =
     let start = c.before.before in
     let own-fits = start.ranges.own in
     let other_fits = start.ranges.other in
@@ -48,8 +48,8 @@ returns c =
 
 -- ---- where every state is reached
 
-backwards-requires-2 : tie.Need-backwards-requires-2
-backwards-requires-2 c κs =
+backwards-requires-then-kind : tie.Need-backwards-requires-then-kind
+backwards-requires-then-kind c κs =
     let branch = c.before in
     let start = branch.before.before in
     let own-fits = start.ranges.own in
@@ -58,17 +58,17 @@ backwards-requires-2 c κs =
     let (known, (own_small, (other_small, (small, (room, (small-before, reached)))))) = start.requires in
     (simp plain (house_ready own_small other_small), (rw e at small, (rw e at room, (rw e at small-before, λ p. rw e at (reached (every-reached branch.before))))))
 
-returns-2 : tie.Need-returns-2
-returns-2 c =
+returns-then-kind : tie.Need-returns-then-kind
+returns-then-kind c =
     let branch = c.before.before in
     let start = branch.before.before in
     let own-fits = start.ranges.own in
     let other_fits = start.ranges.other in
     let e = house-two branch in
-    λ target branch-metric wings. rw e (c.backwards2.ensures target branch-metric (simp plain (wings_same (start.requires.0.house_is branch.if2.true).1 (rw e at wings))))
+    λ target branch-metric wings. rw e (c.backwards-then-kind.ensures target branch-metric (simp plain (wings_same (start.requires.0.house_is branch.if-kind.true).1 (rw e at wings))))
 
-backwards-requires-3 : tie.Need-backwards-requires-3
-backwards-requires-3 c κs =
+backwards-requires-then-kind-2 : tie.Need-backwards-requires-then-kind-2
+backwards-requires-then-kind-2 c κs =
     let branch = c.before in
     let start = branch.before.before.before in
     let own-fits = start.ranges.own in
@@ -77,17 +77,17 @@ backwards-requires-3 c κs =
     let (known, (own_small, (other_small, (small, (room, (small-before, reached)))))) = start.requires in
     (simp plain (gpp_ready own_small other_small), (rw e at small, (rw e at room, (rw e at small-before, λ p. rw e at (reached (every-reached branch.before.before))))))
 
-returns-3 : tie.Need-returns-3
-returns-3 c =
+returns-then-kind-2 : tie.Need-returns-then-kind-2
+returns-then-kind-2 c =
     let branch = c.before.before in
     let start = branch.before.before.before in
     let own-fits = start.ranges.own in
     let other_fits = start.ranges.other in
     let e = gpp-four branch in
-    λ target branch-metric wings. rw e (c.backwards3.ensures target branch-metric (simp plain (wings_same (start.requires.0.gpp_is branch.if3.true).1 (rw e at wings))))
+    λ target branch-metric wings. rw e (c.backwards-then-kind-2.ensures target branch-metric (simp plain (wings_same (start.requires.0.gpp_is branch.if-kind-2.true).1 (rw e at wings))))
 
-backwards-requires-4 : tie.Need-backwards-requires-4
-backwards-requires-4 c κs =
+backwards-requires-then-kind-eq2 : tie.Need-backwards-requires-then-kind-eq2
+backwards-requires-then-kind-eq2 c κs =
     let branch = c in
     let start = branch.before.before.before.before.before in
     let own-fits = start.ranges.own in
@@ -96,17 +96,17 @@ backwards-requires-4 c κs =
     let (known, (own_small, (other_small, (small, (room, (small-before, reached)))))) = start.requires in
     (simp plain (rw e at (known_ready own_small other_small known)), (rw e at small, (rw e at room, (rw e at small-before, λ p. rw e at (reached (every-reached branch.before.before.before.before))))))
 
-returns-4 : tie.Need-returns-4
-returns-4 c =
+returns-then-kind-eq2 : tie.Need-returns-then-kind-eq2
+returns-then-kind-eq2 c =
     let branch = c.before in
     let start = branch.before.before.before.before.before in
     let own-fits = start.ranges.own in
     let other_fits = start.ranges.other in
     let e = two branch in
-    λ target branch-metric wings. rw e (c.backwards4.ensures target branch-metric (simp plain (rw e at wings)))
+    λ target branch-metric wings. rw e (c.backwards-then-kind-eq2.ensures target branch-metric (simp plain (rw e at wings)))
 
-backwards-requires-5 : tie.Need-backwards-requires-5
-backwards-requires-5 c κs =
+backwards-requires-then-kind-eq4 : tie.Need-backwards-requires-then-kind-eq4
+backwards-requires-then-kind-eq4 c κs =
     let branch = c in
     let start = branch.before.before.before.before.before.before.before in
     let own-fits = start.ranges.own in
@@ -115,17 +115,17 @@ backwards-requires-5 c κs =
     let (known, (own_small, (other_small, (small, (room, (small-before, reached)))))) = start.requires in
     (simp plain (rw e at (known_ready own_small other_small known)), (rw e at small, (rw e at room, (rw e at small-before, λ p. rw e at (reached (every-reached branch.before.before.before.before.before.before))))))
 
-returns-5 : tie.Need-returns-5
-returns-5 c =
+returns-then-kind-eq4 : tie.Need-returns-then-kind-eq4
+returns-then-kind-eq4 c =
     let branch = c.before in
     let start = branch.before.before.before.before.before.before.before in
     let own-fits = start.ranges.own in
     let other_fits = start.ranges.other in
     let e = four branch in
-    λ target branch-metric wings. rw e (c.backwards5.ensures target branch-metric (simp plain (rw e at wings)))
+    λ target branch-metric wings. rw e (c.backwards-then-kind-eq4.ensures target branch-metric (simp plain (rw e at wings)))
 
-backwards-requires-6 : tie.Need-backwards-requires-6
-backwards-requires-6 c κs =
+backwards-requires-2 : tie.Need-backwards-requires-2
+backwards-requires-2 c κs =
     let branch = c in
     let start = branch.before.before.before.before.before.before.before in
     let own-fits = start.ranges.own in
@@ -134,28 +134,28 @@ backwards-requires-6 c κs =
     let (known, (own_small, (other_small, (small, (room, (small-before, reached)))))) = start.requires in
     (simp plain (rw e at (known_ready own_small other_small known)), (rw e at small, (rw e at room, (rw e at small-before, λ p. rw e at (reached (every-reached branch.before.before.before.before.before.before))))))
 
-returns-6 : tie.Need-returns-6
-returns-6 c =
+returns : tie.Need-returns
+returns c =
     let branch = c.before in
     let start = branch.before.before.before.before.before.before.before in
     let own-fits = start.ranges.own in
     let other_fits = start.ranges.other in
     let e = eight branch in
-    λ target branch-metric wings. rw e (c.backwards6.ensures target branch-metric (simp plain (rw e at wings)))
+    λ target branch-metric wings. rw e (c.backwards-2.ensures target branch-metric (simp plain (rw e at wings)))
 
-pub step-backwards-spec : {M : Type 1} → statement M
-step-backwards-spec =
+pub step_backwards_spec : {M : Type 1} → statement M
+step_backwards_spec =
     tie.close
     (tie.spec
     backwards-requires
-    returns
+    returns-then-not-plain
+    backwards-requires-then-kind
+    returns-then-kind
+    backwards-requires-then-kind-2
+    returns-then-kind-2
+    backwards-requires-then-kind-eq2
+    returns-then-kind-eq2
+    backwards-requires-then-kind-eq4
+    returns-then-kind-eq4
     backwards-requires-2
-    returns-2
-    backwards-requires-3
-    returns-3
-    backwards-requires-4
-    returns-4
-    backwards-requires-5
-    returns-5
-    backwards-requires-6
-    returns-6)
+    returns)

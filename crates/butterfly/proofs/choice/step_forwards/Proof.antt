@@ -13,28 +13,28 @@ use Rattle.butterfly.proofs.choice.step_forwards.Tie as tie
 
 -- ---- what the tests tell
 
-every-reached : (c : tie.Else1) → c.before.args.plain ≡ true
-every-reached c = not-false _ c.if1.false
+every-reached : (c : tie.Else-not-plain) → c.args.plain ≡ true
+every-reached c = not-false _ c.if-not-plain.false-raw
 
-house-two : (c : tie.Then2) → c.before.before.args.kind.half ≡ 2
-house-two c = (c.before.before.requires.0.house_is c.if2.true).0
+house-two : (c : tie.Then-kind) → c.args.kind.half ≡ 2
+house-two c = (c.requires.0.house_is c.if-kind.true).0
 
-gpp-four : (c : tie.Then3) → c.before.before.before.args.kind.half ≡ 4
-gpp-four c = (c.before.before.before.requires.0.gpp_is c.if3.true).0
+gpp-four : (c : tie.Then-kind-2) → c.args.kind.half ≡ 4
+gpp-four c = (c.requires.0.gpp_is c.if-kind-2.true).0
 
-two : (c : tie.Then4) → c.before.before.before.before.before.args.kind.half ≡ 2
-two c = c.if4.true
+two : (c : tie.Then-kind-eq2) → c.args.kind.half ≡ 2
+two c = c.if-kind-eq2.true
 
-four : (c : tie.Then5) → c.before.before.before.before.before.before.before.args.kind.half ≡ 4
-four c = c.if5.true
+four : (c : tie.Then-kind-eq4) → c.args.kind.half ≡ 4
+four c = c.if-kind-eq4.true
 
-eight : (c : tie.Else5) → c.before.before.before.before.before.before.before.args.kind.half ≡ 8
-eight c = c.before.before.before.before.before.before.before.requires.0.else_eight c.before.before.if4.false c.if5.false
+eight : (c : tie.Else-kind-eq4) → c.args.kind.half ≡ 8
+eight c = c.requires.0.else_eight c.if-kind-eq2.false c.if-kind-eq4.false
 
 -- ---- where a state may be unreached
 
-add-save : tie.Need-overflow-add-save
-add-save c = omega (arith, c.before.before.requires.0.few)
+overflow_add-kind : tie.Need-overflow_add-kind
+overflow_add-kind c = omega (arith, c.requires.0.few)
 
 save-requires : tie.Need-save-requires
 save-requires c κs = let start = c.before.before.before in (omega (arith, start.requires.0.few), start.requires.1.1.1.1.1)
@@ -47,23 +47,23 @@ forwards-requires c κs =
     let (known, (own_small, (other_small, (small, rest)))) = start.requires in
     (simp plain (known_ready own_small other_small known), (small, λ e. absurd (false≢true e)))
 
-same_length : tie.Need-same-length
-same_length c = search rules
+shape_of-work-then-not-plain : tie.Need-shape_of-work-then-not-plain
+shape_of-work-then-not-plain c = search rules
 
-returns : tie.Need-returns
-returns c =
+returns-then-not-plain : tie.Need-returns-then-not-plain
+returns-then-not-plain c =
     let start = c.before.before.before.before.before.before in
     let own-fits = start.ranges.own in
     let other_fits = start.ranges.other in
-    ((λ target branch-metric wings. c.forwards.ensures target branch-metric (simp plain wings)), c.before.before.save.ensures)
+    ((λ target branch-metric wings. c.forwards.ensures target branch-metric (simp plain wings)), c.save.ensures)
 
 -- ---- where every state is reached
 
-save-requires-2 : tie.Need-save-requires-2
-save-requires-2 c κs = let start = c.before.before.before in (omega arith, rw (house-two c.before) at start.requires.1.1.1.1.1)
+save-requires-then-kind : tie.Need-save-requires-then-kind
+save-requires-then-kind c κs = let start = c.before.before.before in (omega arith, rw (house-two c.before) at start.requires.1.1.1.1.1)
 
-forwards-requires-2 : tie.Need-forwards-requires-2
-forwards-requires-2 c κs =
+forwards-requires-then-kind : tie.Need-forwards-requires-then-kind
+forwards-requires-then-kind c κs =
     let branch = c.before.before.before.before in
     let start = branch.before.before in
     let own-fits = start.ranges.own in
@@ -72,24 +72,24 @@ forwards-requires-2 c κs =
     let (known, (own_small, (other_small, (small, (reached, room))))) = start.requires in
     (simp plain (house_ready own_small other_small), (rw e at small, λ p. rw e at (reached (every-reached branch.before))))
 
-same-length-2 : tie.Need-same-length-2
-same-length-2 c = search rules
+shape_of-work-then-kind : tie.Need-shape_of-work-then-kind
+shape_of-work-then-kind c = search rules
 
-returns-2 : tie.Need-returns-2
-returns-2 c =
+returns-then-kind : tie.Need-returns-then-kind
+returns-then-kind c =
     let branch = c.before.before.before.before.before in
     let start = branch.before.before in
     let own-fits = start.ranges.own in
     let other_fits = start.ranges.other in
     let e = house-two branch in
-    let given = c.forwards2.ensures in
-    ((λ target branch-metric wings. rw e (given target branch-metric (simp plain (wings_same (start.requires.0.house_is branch.if2.true).1 (rw e at wings))))), rw e c.before.before.before.save2.ensures)
+    let given = c.forwards-then-kind.ensures in
+    ((λ target branch-metric wings. rw e (given target branch-metric (simp plain (wings_same (start.requires.0.house_is branch.if-kind.true).1 (rw e at wings))))), rw e c.save-then-kind.ensures)
 
-save-requires-3 : tie.Need-save-requires-3
-save-requires-3 c κs = let start = c.before.before.before.before in (omega arith, rw (gpp-four c.before) at start.requires.1.1.1.1.1)
+save-requires-then-kind-2 : tie.Need-save-requires-then-kind-2
+save-requires-then-kind-2 c κs = let start = c.before.before.before.before in (omega arith, rw (gpp-four c.before) at start.requires.1.1.1.1.1)
 
-forwards-requires-3 : tie.Need-forwards-requires-3
-forwards-requires-3 c κs =
+forwards-requires-then-kind-2 : tie.Need-forwards-requires-then-kind-2
+forwards-requires-then-kind-2 c κs =
     let branch = c.before.before.before.before in
     let start = branch.before.before.before in
     let own-fits = start.ranges.own in
@@ -98,24 +98,24 @@ forwards-requires-3 c κs =
     let (known, (own_small, (other_small, (small, (reached, room))))) = start.requires in
     (simp plain (gpp_ready own_small other_small), (rw e at small, λ p. rw e at (reached (every-reached branch.before.before))))
 
-same-length-3 : tie.Need-same-length-3
-same-length-3 c = search rules
+shape_of-work-then-kind-2 : tie.Need-shape_of-work-then-kind-2
+shape_of-work-then-kind-2 c = search rules
 
-returns-3 : tie.Need-returns-3
-returns-3 c =
+returns-then-kind-2 : tie.Need-returns-then-kind-2
+returns-then-kind-2 c =
     let branch = c.before.before.before.before.before in
     let start = branch.before.before.before in
     let own-fits = start.ranges.own in
     let other_fits = start.ranges.other in
     let e = gpp-four branch in
-    let given = c.forwards3.ensures in
-    ((λ target branch-metric wings. rw e (given target branch-metric (simp plain (wings_same (start.requires.0.gpp_is branch.if3.true).1 (rw e at wings))))), rw e c.before.before.before.save3.ensures)
+    let given = c.forwards-then-kind-2.ensures in
+    ((λ target branch-metric wings. rw e (given target branch-metric (simp plain (wings_same (start.requires.0.gpp_is branch.if-kind-2.true).1 (rw e at wings))))), rw e c.save-then-kind-2.ensures)
 
-save-requires-4 : tie.Need-save-requires-4
-save-requires-4 c κs = let start = c.before.before.before.before.before.before in (omega arith, rw (two c.before) at start.requires.1.1.1.1.1)
+save-requires-then-kind-eq2 : tie.Need-save-requires-then-kind-eq2
+save-requires-then-kind-eq2 c κs = let start = c.before.before.before.before.before.before in (omega arith, rw (two c.before) at start.requires.1.1.1.1.1)
 
-forwards-requires-4 : tie.Need-forwards-requires-4
-forwards-requires-4 c κs =
+forwards-requires-then-kind-eq2 : tie.Need-forwards-requires-then-kind-eq2
+forwards-requires-then-kind-eq2 c κs =
     let branch = c.before.before.before in
     let start = branch.before.before.before.before.before in
     let own-fits = start.ranges.own in
@@ -124,24 +124,24 @@ forwards-requires-4 c κs =
     let (known, (own_small, (other_small, (small, (reached, room))))) = start.requires in
     (simp plain (rw e at (known_ready own_small other_small known)), (rw e at small, λ p. rw e at (reached (every-reached branch.before.before.before.before))))
 
-same-length-4 : tie.Need-same-length-4
-same-length-4 c = search rules
+shape_of-work-then-kind-eq2 : tie.Need-shape_of-work-then-kind-eq2
+shape_of-work-then-kind-eq2 c = search rules
 
-returns-4 : tie.Need-returns-4
-returns-4 c =
+returns-then-kind-eq2 : tie.Need-returns-then-kind-eq2
+returns-then-kind-eq2 c =
     let branch = c.before.before.before.before in
     let start = branch.before.before.before.before.before in
     let own-fits = start.ranges.own in
     let other_fits = start.ranges.other in
     let e = two branch in
-    let given = c.forwards4.ensures in
-    ((λ target branch-metric wings. rw e (given target branch-metric (simp plain (rw e at wings)))), rw e c.before.before.save4.ensures)
+    let given = c.forwards-then-kind-eq2.ensures in
+    ((λ target branch-metric wings. rw e (given target branch-metric (simp plain (rw e at wings)))), rw e c.save-then-kind-eq2.ensures)
 
-save-requires-5 : tie.Need-save-requires-5
-save-requires-5 c κs = let start = c.before.before.before.before.before.before.before.before in (omega arith, rw (four c.before) at start.requires.1.1.1.1.1)
+save-requires-then-kind-eq4 : tie.Need-save-requires-then-kind-eq4
+save-requires-then-kind-eq4 c κs = let start = c.before.before.before.before.before.before.before.before in (omega arith, rw (four c.before) at start.requires.1.1.1.1.1)
 
-forwards-requires-5 : tie.Need-forwards-requires-5
-forwards-requires-5 c κs =
+forwards-requires-then-kind-eq4 : tie.Need-forwards-requires-then-kind-eq4
+forwards-requires-then-kind-eq4 c κs =
     let branch = c.before.before.before in
     let start = branch.before.before.before.before.before.before.before in
     let own-fits = start.ranges.own in
@@ -150,24 +150,24 @@ forwards-requires-5 c κs =
     let (known, (own_small, (other_small, (small, (reached, room))))) = start.requires in
     (simp plain (rw e at (known_ready own_small other_small known)), (rw e at small, λ p. rw e at (reached (every-reached branch.before.before.before.before.before.before))))
 
-same-length-5 : tie.Need-same-length-5
-same-length-5 c = search rules
+shape_of-work-then-kind-eq4 : tie.Need-shape_of-work-then-kind-eq4
+shape_of-work-then-kind-eq4 c = search rules
 
-returns-5 : tie.Need-returns-5
-returns-5 c =
+returns-then-kind-eq4 : tie.Need-returns-then-kind-eq4
+returns-then-kind-eq4 c =
     let branch = c.before.before.before.before in
     let start = branch.before.before.before.before.before.before.before in
     let own-fits = start.ranges.own in
     let other_fits = start.ranges.other in
     let e = four branch in
-    let given = c.forwards5.ensures in
-    ((λ target branch-metric wings. rw e (given target branch-metric (simp plain (rw e at wings)))), rw e c.before.before.save5.ensures)
+    let given = c.forwards-then-kind-eq4.ensures in
+    ((λ target branch-metric wings. rw e (given target branch-metric (simp plain (rw e at wings)))), rw e c.save-then-kind-eq4.ensures)
 
-save-requires-6 : tie.Need-save-requires-6
-save-requires-6 c κs = let start = c.before.before.before.before.before.before.before.before in (omega arith, rw (eight c.before) at start.requires.1.1.1.1.1)
+save-requires-2 : tie.Need-save-requires-2
+save-requires-2 c κs = let start = c.before.before.before.before.before.before.before.before in (omega arith, rw (eight c.before) at start.requires.1.1.1.1.1)
 
-forwards-requires-6 : tie.Need-forwards-requires-6
-forwards-requires-6 c κs =
+forwards-requires-2 : tie.Need-forwards-requires-2
+forwards-requires-2 c κs =
     let branch = c.before.before.before in
     let start = branch.before.before.before.before.before.before.before in
     let own-fits = start.ranges.own in
@@ -176,45 +176,45 @@ forwards-requires-6 c κs =
     let (known, (own_small, (other_small, (small, (reached, room))))) = start.requires in
     (simp plain (rw e at (known_ready own_small other_small known)), (rw e at small, λ p. rw e at (reached (every-reached branch.before.before.before.before.before.before))))
 
-same-length-6 : tie.Need-same-length-6
-same-length-6 c = search rules
+shape_of-work : tie.Need-shape_of-work
+shape_of-work c = search rules
 
-returns-6 : tie.Need-returns-6
-returns-6 c =
+returns : tie.Need-returns
+returns c =
     let branch = c.before.before.before.before in
     let start = branch.before.before.before.before.before.before.before in
     let own-fits = start.ranges.own in
     let other_fits = start.ranges.other in
     let e = eight branch in
-    let given = c.forwards6.ensures in
-    ((λ target branch-metric wings. rw e (given target branch-metric (simp plain (rw e at wings)))), rw e c.before.before.save6.ensures)
+    let given = c.forwards-2.ensures in
+    ((λ target branch-metric wings. rw e (given target branch-metric (simp plain (rw e at wings)))), rw e c.save-2.ensures)
 
-pub step-forwards-spec : {M : Type 1} → statement M
-step-forwards-spec =
+pub step_forwards_spec : {M : Type 1} → statement M
+step_forwards_spec =
     tie.close
     (tie.spec
-    add-save
+    overflow_add-kind
     save-requires
     forwards-requires
-    same_length
-    returns
+    shape_of-work-then-not-plain
+    returns-then-not-plain
+    save-requires-then-kind
+    forwards-requires-then-kind
+    shape_of-work-then-kind
+    returns-then-kind
+    save-requires-then-kind-2
+    forwards-requires-then-kind-2
+    shape_of-work-then-kind-2
+    returns-then-kind-2
+    save-requires-then-kind-eq2
+    forwards-requires-then-kind-eq2
+    shape_of-work-then-kind-eq2
+    returns-then-kind-eq2
+    save-requires-then-kind-eq4
+    forwards-requires-then-kind-eq4
+    shape_of-work-then-kind-eq4
+    returns-then-kind-eq4
     save-requires-2
     forwards-requires-2
-    same-length-2
-    returns-2
-    save-requires-3
-    forwards-requires-3
-    same-length-3
-    returns-3
-    save-requires-4
-    forwards-requires-4
-    same-length-4
-    returns-4
-    save-requires-5
-    forwards-requires-5
-    same-length-5
-    returns-5
-    save-requires-6
-    forwards-requires-6
-    same-length-6
-    returns-6)
+    shape_of-work
+    returns)

@@ -58,100 +58,100 @@ module _ (c : tie.Start) where
   pass : Pass t c.args.format.sections v
   pass = c.requires.1.0
 
-signs-requires : tie.Need-signs-requires
-signs-requires c κs =
+signs-all-requires : tie.Need-signs-all-requires
+signs-all-requires c κs =
     let b = is c.before.before.before in
     let halves = b.steps.halves in
     (b.steps.few, (b.next_long ∙ ap (λ m. 2 * m) halves, b.words_long ∙ ap (λ m. 2 * m) halves))
 
-abbrev begun : tie.After-signs → tie.Start
+abbrev begun : tie.After-signs-all → tie.Start
 begun c = c.before.before.before.before
 
-kind-of-requires : tie.Need-kind-of-requires
-kind-of-requires c κs =
+kind_of-kind-requires : tie.Need-kind_of-kind-requires
+kind_of-kind-requires c κs =
     let b = is (begun c.before) in
-    (b.steps.few, (b.steps.else_eight, signs_are c.before.signs.ensures))
+    (b.steps.few, (b.steps.else_eight, signs_are c.signs-all.ensures))
 
-module _ (c : tie.After-kind-of) where
-  abbrev signed : tie.After-signs
+module _ (c : tie.After-kind_of-kind) where
+  abbrev signed : tie.After-signs-all
   signed = c.before.before
 
   abbrev start : tie.Start
   start = begun signed
 
   abbrev kind : Kind
-  kind = c.kind-of.result
+  kind = c.kind_of-kind.result
 
-  flies : Winged (t start) start.args.format.sections (v start) kind.half signed.signs.result
-  flies = winged-as c.kind-of.ensures.1 (winged (is start) (pass start) signed.signs.ensures)
+  flies : Winged (t start) start.args.format.sections (v start) kind.half signed.signs-all.result
+  flies = winged-as c.kind_of-kind.ensures.1 (winged (is start) (pass start) signed.signs-all.ensures)
 
   same-states : states_of kind ≡ start.args.format.states
   same-states = sym flies.halves
 
-gather-all-requires : tie.Need-gather-all-requires
-gather-all-requires c κs =
+gather_all-path-requires : tie.Need-gather_all-path-requires
+gather_all-path-requires c κs =
     let k = c.before.before.before.before in
     let s = start k in
-    let (work_long, (marks_long, (margins_long, extrinsics_long))) = s.pre.1.1 in (
-      record { known = k.kind-of.ensures.0; table = t s; winged = flies k },
+    let (work_long, (marks_long, (margins_long, extrinsics_long))) = s.requires.1.1 in (
+      record { known = k.kind_of-kind.ensures.0; table = t s; winged = flies k },
       (work_long ∙ ap (λ m. (s.args.format.sections + 1) * m) (sym (same-states k)), (margins_long, extrinsics_long)),
     )
 
 -- ---- after the sweeps
 
-module _ (c : tie.After-gather-all) where
-  abbrev known : tie.After-kind-of
+module _ (c : tie.After-gather_all-path) where
+  abbrev known : tie.After-kind_of-kind
   known = c.before.before.before.before.before
 
   abbrev entry : tie.Start
   entry = start known
 
   abbrev gathered-margins : List ℤ
-  gathered-margins = c.gather-all.new.1.1.1.1.1.1.0
+  gathered-margins = c.gather_all-path.new.margins
 
   abbrev gathered-extrinsics : List ℤ
-  gathered-extrinsics = c.gather-all.new.1.1.1.1.1.1.1.0
+  gathered-extrinsics = c.gather_all-path.new.extrinsics
 
   stage :
-      Stage (t entry) (v entry) entry.args.format.end entry.args.format.sections (starts entry.args.format.states entry.args.format.end) c.gather-all.result
+      Stage (t entry) (v entry) entry.args.format.end entry.args.format.sections (starts entry.args.format.states entry.args.format.end) c.gather_all-path.result
       gathered-margins gathered-extrinsics
-  stage = rw (same-states known) at (c.gather-all.ensures.0 (t entry) (flies known))
+  stage = rw (same-states known) at (c.gather_all-path.ensures.0 (t entry) (flies known))
 
   -- whether a state to start in has a path tells whether there is one
-  told : pathless (t entry) entry.args.format.end entry.args.format.sections ≡ not c.gather-all.result
+  told : pathless (t entry) entry.args.format.end entry.args.format.sections ≡ not c.gather_all-path.result
   told = reached_is (pass entry) entry.args.format.end ∙ ap not (sym stage.reached)
 
   margins_long : length gathered-margins ≡ entry.args.format.sections
-  margins_long = c.gather-all.auto.1.1.1.1.1.1.0 ∙ entry.pre.1.1.1.1.0
+  margins_long = c.gather_all-path.auto.margins ∙ entry.requires.1.1.1.1.0
 
   extrinsics_long : length gathered-extrinsics ≡ entry.args.format.sections
-  extrinsics_long = c.gather-all.auto.1.1.1.1.1.1.1.0 ∙ entry.pre.1.1.1.1.1
+  extrinsics_long = c.gather_all-path.auto.extrinsics ∙ entry.requires.1.1.1.1.1
 
 clear-requires : tie.Need-clear-requires
 clear-requires c κs = search rules
 
-abbrev swept : tie.After-clear → tie.After-gather-all
+abbrev swept : tie.After-clear → tie.After-gather_all-path
 swept c = c.before.before.before.before.before
 
 -- the working list is cleared
-zeros : (c : tie.After-clear) → c.clear.new.0 ≡ replicate (length (entry (swept c)).args.work.now) (pos 0)
-zeros c = c.clear.ensures ∙ ap (λ n. replicate n (pos 0)) (swept c).gather-all.auto.1.1.1.1.1.1.1.1.0
+zeros : (c : tie.After-clear) → c.clear.new.work ≡ replicate (length (entry (swept c)).args.work.now) (pos 0)
+zeros c = c.clear.ensures ∙ ap (λ n. replicate n (pos 0)) (swept c).gather_all-path.auto.work
 
-same_length : tie.Need-same-length
-same_length c = search rules
+shape_of-margins-then-not-path : tie.Need-shape_of-margins-then-not-path
+shape_of-margins-then-not-path c = search rules
 
-same-length-2 : tie.Need-same-length-2
-same-length-2 c = search rules
+shape_of-extrinsics-then-not-path : tie.Need-shape_of-extrinsics-then-not-path
+shape_of-extrinsics-then-not-path c = search rules
 
-same-length-3 : tie.Need-same-length-3
-same-length-3 c = search rules
+shape_of-work-then-not-path : tie.Need-shape_of-work-then-not-path
+shape_of-work-then-not-path c = search rules
 
-returns : tie.Need-returns
-returns c =
+returns-then-not-path : tie.Need-returns-then-not-path
+returns-then-not-path c =
     let cleared = c.before.before in
     let all = swept cleared in
-    let none-there = not-true _ c.if1.true in
-    let (margins-same, extrinsics-same) = all.gather-all.ensures.1 none-there in
+    let none-there = not-true _ c.if-not-path.true-raw in
+    let (margins-same, extrinsics-same) = all.gather_all-path.ensures.1 none-there in
     settled_none _ _ (told all ∙ ap not none-there) refl margins-same extrinsics-same (zeros cleared)
 
 -- ---- a path
@@ -163,7 +163,7 @@ some-start states Zero h = omega arith
 some-start states Open h = omega arith
 some-start states Ring h = h
 
-module _ (c : tie.After-gather-all) (there : c.gather-all.result ≡ true) where
+module _ (c : tie.After-gather_all-path) (there : c.gather_all-path.result ≡ true) where
   abbrev s : tie.Start
   s = entry c
 
@@ -193,14 +193,14 @@ tell-requires c κs =
     let branch = c.before.before.before in
     let all = swept branch.before.before in
     let e = entry all in
-    let there = not-false _ branch.if1.false in (
+    let there = not-false _ branch.if-not-path.false-raw in (
       few_sections (pass e),
       (
         (pass e).channel_long ∙ ap (λ m. m * e.args.format.sections) (is e).two_outputs,
         (
           (pass e).apriori_long,
           (
-            e.pre.1.1.1.0,
+            e.requires.1.1.1.0,
             (
               margins_long all,
               (
@@ -213,42 +213,42 @@ tell-requires c κs =
       ),
     )
 
-same-length-4 : tie.Need-same-length-4
-same-length-4 c = search rules
+shape_of-marks : tie.Need-shape_of-marks
+shape_of-marks c = search rules
 
-same-length-5 : tie.Need-same-length-5
-same-length-5 c = search rules
+shape_of-margins : tie.Need-shape_of-margins
+shape_of-margins c = search rules
 
-same-length-6 : tie.Need-same-length-6
-same-length-6 c = search rules
+shape_of-extrinsics : tie.Need-shape_of-extrinsics
+shape_of-extrinsics c = search rules
 
-same-length-7 : tie.Need-same-length-7
-same-length-7 c = search rules
+shape_of-work : tie.Need-shape_of-work
+shape_of-work c = search rules
 
 -- the lists that the positions are told to
 written :
     (c : tie.After-tell)
     → let all = swept c.before.before.before.before.before.before in
     let e = entry all in
-    Written (t e) (v e) e.args.format.end e.args.format.sections c.tell.new.1.1.1.0 c.tell.new.1.1.1.1.0 c.tell.new.1.1.1.1.1.0
+    Written (t e) (v e) e.args.format.end e.args.format.sections c.tell.new.marks c.tell.new.margins c.tell.new.extrinsics
 written c =
     let branch = c.before.before.before.before in
     let all = swept branch.before.before in
     let e = entry all in
-    let there = not-false _ branch.if1.false in
+    let there = not-false _ branch.if-not-path.false-raw in
     all_told (pass e) e.args.format.end (last all there) (bests all there) (is e).two_outputs (is e).is_systematic
-    (c.tell.auto.1.1.1.0 ∙ e.pre.1.1.1.0)
-    (c.tell.auto.1.1.1.1.0 ∙ margins_long all)
-    (c.tell.auto.1.1.1.1.1.0 ∙ extrinsics_long all)
+    (c.tell.auto.marks ∙ e.requires.1.1.1.0)
+    (c.tell.auto.margins ∙ margins_long all)
+    (c.tell.auto.extrinsics ∙ extrinsics_long all)
     c.tell.ensures
 
-returns-2 : tie.Need-returns-2
-returns-2 c =
+returns : tie.Need-returns
+returns c =
     let told-all = c.before.before.before.before in
     let branch = told-all.before.before.before.before in
     let cleared = branch.before.before in
     let all = swept cleared in
-    let there = not-false all.gather-all.result branch.if1.false in
+    let there = not-false all.gather_all-path.result branch.if-not-path.false-raw in
     let lists = written told-all in
     settled_done _ _ (told all ∙ ap not there) lists.marks_are lists.margins_are lists.extrinsics_are (zeros cleared)
 
@@ -256,17 +256,17 @@ pub run_spec : {M : Type 1} → statement M
 run_spec =
     tie.close
     (tie.spec
-    signs-requires
-    kind-of-requires
-    gather-all-requires
+    signs-all-requires
+    kind_of-kind-requires
+    gather_all-path-requires
     clear-requires
-    same_length
-    same-length-2
-    same-length-3
-    returns
+    shape_of-margins-then-not-path
+    shape_of-extrinsics-then-not-path
+    shape_of-work-then-not-path
+    returns-then-not-path
     tell-requires
-    same-length-4
-    same-length-5
-    same-length-6
-    same-length-7
-    returns-2)
+    shape_of-marks
+    shape_of-margins
+    shape_of-extrinsics
+    shape_of-work
+    returns)

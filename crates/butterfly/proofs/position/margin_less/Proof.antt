@@ -26,27 +26,27 @@ Fitting y x i =
 small-fitting : (y x i : ℤ) → Within 100000000 y → Within 100000000 x → Within 9214 i → Fitting y x i
 small-fitting y x i = simp ints (omega arith)
 
-fitting : (c : tie.Then1) → let args = c.before.args in Fitting args.one args.zero args.part
+fitting : (c : tie.Then-free) → let args = c.args in Fitting args.one args.zero args.part
 fitting c =
-    let (zero_small, (one_small, (part_small, there))) = c.before.requires in
-    let (zero-there, one-there) = there c.if1.true in
+    let (zero_small, (one_small, (part_small, there))) = c.requires in
+    let (zero-there, one-there) = there c.if-free.true in
     small-fitting _ _ _ (small_known (rw one-there at one_small)) (small_known (rw zero-there at zero_small)) part_small
 
-sub-result : tie.Need-overflow-sub-result
-sub-result c = let (y, x, i, difference, half, rest) = fitting c in simp plain difference
+overflow_sub-result : tie.Need-overflow_sub-result
+overflow_sub-result c = let (y, x, i, difference, half, rest) = fitting c in simp plain difference
 
-div-result : tie.Need-nonzero-div-result
-div-result c = let (y, x, i, difference, half, rest) = fitting c in (lit< tt, simp plain half)
+nonzero_div-result : tie.Need-nonzero_div-result
+nonzero_div-result c = let (y, x, i, difference, half, rest) = fitting c in (lit< tt, simp plain half)
 
-sub-result-2 : tie.Need-overflow-sub-result-2
-sub-result-2 c = let (y, x, i, difference, half, rest) = fitting c in simp plain rest
+overflow_sub-result-then-free : tie.Need-overflow_sub-result-then-free
+overflow_sub-result-then-free c = let (y, x, i, difference, half, rest) = fitting c in simp plain rest
 
-returns : tie.Need-returns
+returns-then-free : tie.Need-returns-then-free
 unfolding half
-returns c = let (y, x, i, difference, half, rest) = fitting c in rw c.if1.true (simp plain)
+returns-then-free c = let (y, x, i, difference, half, rest) = fitting c in rw c.if-free.true (simp plain)
 
-returns-2 : tie.Need-returns-2
-returns-2 c = rw c.if1.false
+returns-else-free : tie.Need-returns-else-free
+returns-else-free c = rw c.if-free.false
 
-pub margin-less-spec : {M : Type 1} → statement M
-margin-less-spec = tie.close (tie.spec sub-result div-result sub-result-2 returns returns-2)
+pub margin_less_spec : {M : Type 1} → statement M
+margin_less_spec = tie.close (tie.spec overflow_sub-result nonzero_div-result overflow_sub-result-then-free returns-then-free returns-else-free)

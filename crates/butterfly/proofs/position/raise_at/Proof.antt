@@ -38,117 +38,117 @@ left-raised {first} {k} {zero} {one} {told} {ms} {gs} {es} in-margins in-extrins
 later : {first : Bool} (x : ℤ) (m : Option ℤ) → first ≡ false → larger (held x) m ≡ raised first x m
 later x m not_first = rw not_first
 
-abbrev start : tie.After-larger → tie.Start
+abbrev start : tie.After-larger-best0 → tie.Start
 start c = c.before.before.before
 
 zero-raised :
-    (c : tie.After-larger) → let args = (start c).args in held c.larger.result ≡ raised args.first (get_or args.margins.now args.k (pos 0)) (held args.zero)
+    (c : tie.After-larger-best0) → let args = (start c).args in held c.larger-best0.result ≡ raised args.first (get_or args.margins.now args.k (pos 0)) (held args.zero)
 zero-raised c =
-    let x_fits : SFits w32 (get_or (start c).args.margins.now (start c).args.k (pos 0)) = fits_of c.before.larger-arg.given in
-    (rw (to_z-of_z x_fits, to_z-of_z (start c).ranges.zero) at c.larger.ensures)
-    ∙ later (get_or (start c).args.margins.now (start c).args.k (pos 0)) (held (start c).args.zero) c.before.before.if1.false
+    let x_fits : SFits w32 (get_or (start c).args.margins.now (start c).args.k (pos 0)) = fits_of c.larger-arg-1.given in
+    (rw (to_z-of_z x_fits, to_z-of_z (start c).ranges.zero) at c.larger-best0.ensures)
+    ∙ later (get_or (start c).args.margins.now (start c).args.k (pos 0)) (held (start c).args.zero) c.if-first.false
 
 one-raised :
-    (c : tie.After-larger2)
+    (c : tie.After-larger-best1)
     → let args = (start c.before.before).args in
-    held c.larger2.result ≡ raised args.first (get_or args.extrinsics.now args.k (pos 0)) (held args.one)
+    held c.larger-best1.result ≡ raised args.first (get_or args.extrinsics.now args.k (pos 0)) (held args.one)
 one-raised c =
     let begun = start c.before.before in
-    let x_fits : SFits w32 (get_or begun.args.extrinsics.now begun.args.k (pos 0)) = fits_of c.before.larger-arg2.given in
-    (rw (to_z-of_z x_fits, to_z-of_z begun.fits.one) at c.larger2.ensures)
-    ∙ later (get_or begun.args.extrinsics.now begun.args.k (pos 0)) (held begun.args.one) c.before.before.before.before.if1.false
+    let x_fits : SFits w32 (get_or begun.args.extrinsics.now begun.args.k (pos 0)) = fits_of c.larger-arg-else-first-1.given in
+    (rw (to_z-of_z x_fits, to_z-of_z begun.ranges.one) at c.larger-best1.ensures)
+    ∙ later (get_or begun.args.extrinsics.now begun.args.k (pos 0)) (held begun.args.one) c.if-first.false
 
 -- ---- the needs
 
-mul-zero : tie.Need-overflow-mul-zero
-mul-zero c = search rules
+offset_bounds-margins-k : tie.Need-offset_bounds-margins-k
+offset_bounds-margins-k c = search rules
 
-slice-set-from-zero : tie.Need-slice-set-from-zero
-slice-set-from-zero c = search rules
+bounds-margins-k : tie.Need-bounds-margins-k
+bounds-margins-k c = search rules
 
-mul-one : tie.Need-overflow-mul-one
-mul-one c = search rules
+offset_bounds-extrinsics-k : tie.Need-offset_bounds-extrinsics-k
+offset_bounds-extrinsics-k c = search rules
 
-slice-set-from-one : tie.Need-slice-set-from-one
-slice-set-from-one c = search rules
+bounds-extrinsics-k : tie.Need-bounds-extrinsics-k
+bounds-extrinsics-k c = search rules
 
-mul-larger : tie.Need-overflow-mul-larger
-mul-larger c = search rules
+offset_bounds-margins-k-else-first : tie.Need-offset_bounds-margins-k-else-first
+offset_bounds-margins-k-else-first c = search rules
 
-slice-copy-out-larger : tie.Need-slice-copy-out-larger
-slice-copy-out-larger c = search rules
+slice_copy_out-larger : tie.Need-slice_copy_out-larger
+slice_copy_out-larger c = search rules
 
-larger-requires : tie.Need-larger-requires
-larger-requires c κs = search rules
+larger-best0-requires : tie.Need-larger-best0-requires
+larger-best0-requires c κs = search rules
 
-mul-larger-2 : tie.Need-overflow-mul-larger-2
-mul-larger-2 c = search rules
+offset_bounds-extrinsics-k-else-first : tie.Need-offset_bounds-extrinsics-k-else-first
+offset_bounds-extrinsics-k-else-first c = search rules
 
-slice-copy-out-larger-2 : tie.Need-slice-copy-out-larger-2
-slice-copy-out-larger-2 c = search rules
+slice_copy_out-larger-else-first : tie.Need-slice_copy_out-larger-else-first
+slice_copy_out-larger-else-first c = search rules
 
-larger-requires-2 : tie.Need-larger-requires-2
-larger-requires-2 c κs = search rules
+larger-best1-requires : tie.Need-larger-best1-requires
+larger-best1-requires c κs = search rules
 
-mul-best0 : tie.Need-overflow-mul-best0
-mul-best0 c = search rules
+offset_bounds-margins-k-else-first-2 : tie.Need-offset_bounds-margins-k-else-first-2
+offset_bounds-margins-k-else-first-2 c = search rules
 
-slice-set-from-best0 : tie.Need-slice-set-from-best0
-slice-set-from-best0 c = search rules
+bounds-margins-k-else-first : tie.Need-bounds-margins-k-else-first
+bounds-margins-k-else-first c = search rules
 
-mul-best1 : tie.Need-overflow-mul-best1
-mul-best1 c = search rules
+offset_bounds-extrinsics-k-else-first-2 : tie.Need-offset_bounds-extrinsics-k-else-first-2
+offset_bounds-extrinsics-k-else-first-2 c = search rules
 
-slice-set-from-best1 : tie.Need-slice-set-from-best1
-slice-set-from-best1 c = search rules
+bounds-extrinsics-k-else-first : tie.Need-bounds-extrinsics-k-else-first
+bounds-extrinsics-k-else-first c = search rules
 
-same_length : tie.Need-same-length
-same_length c = search rules
+shape_of-margins-then-first : tie.Need-shape_of-margins-then-first
+shape_of-margins-then-first c = search rules
 
-same-length-2 : tie.Need-same-length-2
-same-length-2 c = search rules
+shape_of-extrinsics-then-first : tie.Need-shape_of-extrinsics-then-first
+shape_of-extrinsics-then-first c = search rules
 
-returns : tie.Need-returns
+returns-then-first : tie.Need-returns-then-first
 unfolding larger
-returns c told ms =
-    let (in-margins, in-extrinsics) = c.before.requires in
-    rw (to_z-of_z c.before.ranges.zero, to_z-of_z c.before.ranges.one, c.if1.true) (left-raised in-margins in-extrinsics _ _ refl refl)
+returns-then-first c told ms =
+    let (in-margins, in-extrinsics) = c.requires in
+    rw (to_z-of_z c.ranges.zero, to_z-of_z c.ranges.one, c.if-first.true) (left-raised in-margins in-extrinsics _ _ refl refl)
 
-same-length-3 : tie.Need-same-length-3
-same-length-3 c = search rules
+shape_of-margins-else-first : tie.Need-shape_of-margins-else-first
+shape_of-margins-else-first c = search rules
 
-same-length-4 : tie.Need-same-length-4
-same-length-4 c = search rules
+shape_of-extrinsics-else-first : tie.Need-shape_of-extrinsics-else-first
+shape_of-extrinsics-else-first c = search rules
 
-returns-2 : tie.Need-returns-2
-returns-2 c told ms =
+returns-else-first : tie.Need-returns-else-first
+returns-else-first c told ms =
     let larger1 = c.before.before in
     let (in-margins, in-extrinsics) = (start larger1).requires in
     left-raised in-margins in-extrinsics _ _
-    (kept larger1.larger.result larger1.larger.type-inv (zero-raised larger1))
-    (kept c.larger2.result c.larger2.type-inv (one-raised c))
+    (kept larger1.larger-best0.result larger1.larger-best0.type_inv (zero-raised larger1))
+    (kept c.larger-best1.result c.larger-best1.type_inv (one-raised c))
 
-pub raise-at-spec : {M : Type 1} → statement M
-raise-at-spec =
+pub raise_at_spec : {M : Type 1} → statement M
+raise_at_spec =
     tie.close
     (tie.spec
-    mul-zero
-    slice-set-from-zero
-    mul-one
-    slice-set-from-one
-    mul-larger
-    slice-copy-out-larger
-    larger-requires
-    mul-larger-2
-    slice-copy-out-larger-2
-    larger-requires-2
-    mul-best0
-    slice-set-from-best0
-    mul-best1
-    slice-set-from-best1
-    same_length
-    same-length-2
-    returns
-    same-length-3
-    same-length-4
-    returns-2)
+    offset_bounds-margins-k
+    bounds-margins-k
+    offset_bounds-extrinsics-k
+    bounds-extrinsics-k
+    offset_bounds-margins-k-else-first
+    slice_copy_out-larger
+    larger-best0-requires
+    offset_bounds-extrinsics-k-else-first
+    slice_copy_out-larger-else-first
+    larger-best1-requires
+    offset_bounds-margins-k-else-first-2
+    bounds-margins-k-else-first
+    offset_bounds-extrinsics-k-else-first-2
+    bounds-extrinsics-k-else-first
+    shape_of-margins-then-first
+    shape_of-extrinsics-then-first
+    returns-then-first
+    shape_of-margins-else-first
+    shape_of-extrinsics-else-first
+    returns-else-first)

@@ -21,27 +21,27 @@ use Rattle.butterfly.proofs.position.tell_at.Tie as tie
 
 -- ---- the two words
 
-abbrev start : tie.After-one → tie.Start
+abbrev start : tie.After-one-1 → tie.Start
 start c = c.before.before.before
 
-abbrev zero_of : tie.After-one → ℤ
+abbrev zero_of : tie.After-one-1 → ℤ
 zero_of c = get_or (start c).args.margins.now (start c).args.k (pos 0)
 
-abbrev one_of : tie.After-one → ℤ
+abbrev one_of : tie.After-one-1 → ℤ
 one_of c = get_or (start c).args.extrinsics.now (start c).args.k (pos 0)
 
-zero-fits : (c : tie.After-one) → SFits w32 (zero_of c)
-zero-fits c = fits_of c.before.zero.given
+zero-fits : (c : tie.After-one-1) → SFits w32 (zero_of c)
+zero-fits c = fits_of c.zero-1.given
 
-one_fits : (c : tie.After-one) → SFits w32 (one_of c)
-one_fits c = fits_of c.one.given
+one_fits : (c : tie.After-one-1) → SFits w32 (one_of c)
+one_fits c = fits_of c.one-1.given
 
-free-is : (c : tie.After-is-free) → c.is_free.result ≡ (found (held (zero_of c.before)) && found (held (one_of c.before)))
-free-is c = rw (to_z-of_z (zero-fits c.before), to_z-of_z (one_fits c.before)) at c.is_free.ensures
+free-is : (c : tie.After-is_free-free) → c.is_free-free.result ≡ (found (held (zero_of c.before)) && found (held (one_of c.before)))
+free-is c = rw (to_z-of_z (zero-fits c.before), to_z-of_z (one_fits c.before)) at c.is_free-free.ensures
 
 -- at a free position both are metrics
 both-there :
-    (c : tie.After-is-free) → c.is_free.result ≡ true
+    (c : tie.After-is_free-free) → c.is_free-free.result ≡ true
     → (held (zero_of c.before) ≡ some (zero_of c.before)) × (held (one_of c.before) ≡ some (one_of c.before))
 both-there c free =
     let (zero-found, one_Found) = and_both _ _ (sym (free-is c) ∙ free) in
@@ -49,60 +49,60 @@ both-there c free =
 
 -- ---- the needs
 
-mul-zero : tie.Need-overflow-mul-zero
-mul-zero c = search rules
+offset_bounds-margins-k : tie.Need-offset_bounds-margins-k
+offset_bounds-margins-k c = search rules
 
-slice-copy-out-zero : tie.Need-slice-copy-out-zero
-slice-copy-out-zero c = search rules
+slice_copy_out-zero : tie.Need-slice_copy_out-zero
+slice_copy_out-zero c = search rules
 
-mul-one : tie.Need-overflow-mul-one
-mul-one c = search rules
+offset_bounds-extrinsics-k : tie.Need-offset_bounds-extrinsics-k
+offset_bounds-extrinsics-k c = search rules
 
-slice-copy-out-one : tie.Need-slice-copy-out-one
-slice-copy-out-one c = search rules
+slice_copy_out-one : tie.Need-slice_copy_out-one
+slice_copy_out-one c = search rules
 
-is-free-requires : tie.Need-is-free-requires
-is-free-requires c κs = search rules
+is_free-free-requires : tie.Need-is_free-free-requires
+is_free-free-requires c κs = search rules
 
-mark-of-requires : tie.Need-mark-of-requires
-mark-of-requires c κs = search rules
+mark_of-requires : tie.Need-mark_of-requires
+mark_of-requires c κs = search rules
 
-slice-write-marks : tie.Need-slice-write-marks
-slice-write-marks c = search rules
+bounds-marks-k : tie.Need-bounds-marks-k
+bounds-marks-k c = search rules
 
-margin-less-requires : tie.Need-margin-less-requires
-margin-less-requires c κs =
+margin_less-requires : tie.Need-margin_less-requires
+margin_less-requires c κs =
     let known = c.before.before in
     let can = (start known).requires.1.1.1.1 in
     rw (to_z-of_z (zero-fits known), to_z-of_z (one_fits known)) (can.zero_small, (can.one_small, (within_zero 9214, both-there c.before)))
 
-mul-extrinsics : tie.Need-overflow-mul-extrinsics
-mul-extrinsics c = search rules
+offset_bounds-margins-k-2 : tie.Need-offset_bounds-margins-k-2
+offset_bounds-margins-k-2 c = search rules
 
-slice-set-from-extrinsics : tie.Need-slice-set-from-extrinsics
-slice-set-from-extrinsics c = search rules
+bounds-margins-k : tie.Need-bounds-margins-k
+bounds-margins-k c = search rules
 
-margin-less-requires-2 : tie.Need-margin-less-requires-2
-margin-less-requires-2 c κs =
+margin_less-requires-2 : tie.Need-margin_less-requires-2
+margin_less-requires-2 c κs =
     let known = c.before.before.before in
     let (own_small, can) = (start known).requires.1.1.1 in
     rw (to_z-of_z (zero-fits known), to_z-of_z (one_fits known), to_z-of_z (start known).ranges.own)
     (can.zero_small, (can.one_small, (own_small, both-there c.before.before)))
 
-mul-t9 : tie.Need-overflow-mul-t9
-mul-t9 c = search rules
+offset_bounds-extrinsics-k-2 : tie.Need-offset_bounds-extrinsics-k-2
+offset_bounds-extrinsics-k-2 c = search rules
 
-slice-set-from-extrinsics-2 : tie.Need-slice-set-from-extrinsics-2
-slice-set-from-extrinsics-2 c = search rules
+bounds-extrinsics-k : tie.Need-bounds-extrinsics-k
+bounds-extrinsics-k c = search rules
 
-same_length : tie.Need-same-length
-same_length c = search rules
+shape_of-marks : tie.Need-shape_of-marks
+shape_of-marks c = search rules
 
-same-length-2 : tie.Need-same-length-2
-same-length-2 c = search rules
+shape_of-margins : tie.Need-shape_of-margins
+shape_of-margins c = search rules
 
-same-length-3 : tie.Need-same-length-3
-same-length-3 c = search rules
+shape_of-extrinsics : tie.Need-shape_of-extrinsics
+shape_of-extrinsics c = search rules
 
 returns : tie.Need-returns
 returns c =
@@ -112,28 +112,28 @@ returns c =
     let (in-marks, (in-margins, (in-extrinsics, rest))) = (start known).requires in
     told_at in-marks in-margins in-extrinsics (free-is marked.before)
     (rw (to_z-of_z (one_fits known)) at marked.mark_of.ensures)
-    (to_z-of_z (fits_of less.margin-less.type-inv) ∙ rw (to_z-of_z (zero-fits known), to_z-of_z (one_fits known)) at less.margin-less.ensures)
-    (to_z-of_z (fits_of c.margin-less2.type-inv)
-    ∙ rw (to_z-of_z (zero-fits known), to_z-of_z (one_fits known), to_z-of_z (start known).ranges.own) at c.margin-less2.ensures)
+    (to_z-of_z {w = w32} (fits_of less.margin_less.type_inv) ∙ rw (to_z-of_z (zero-fits known), to_z-of_z (one_fits known)) at less.margin_less.ensures)
+    (to_z-of_z {w = w32} (fits_of c.margin_less-2.type_inv)
+    ∙ rw (to_z-of_z (zero-fits known), to_z-of_z (one_fits known), to_z-of_z (start known).ranges.own) at c.margin_less-2.ensures)
 
-pub tell-at-spec : {M : Type 1} → statement M
-tell-at-spec =
+pub tell_at_spec : {M : Type 1} → statement M
+tell_at_spec =
     tie.close
     (tie.spec
-    mul-zero
-    slice-copy-out-zero
-    mul-one
-    slice-copy-out-one
-    is-free-requires
-    mark-of-requires
-    slice-write-marks
-    margin-less-requires
-    mul-extrinsics
-    slice-set-from-extrinsics
-    margin-less-requires-2
-    mul-t9
-    slice-set-from-extrinsics-2
-    same_length
-    same-length-2
-    same-length-3
+    offset_bounds-margins-k
+    slice_copy_out-zero
+    offset_bounds-extrinsics-k
+    slice_copy_out-one
+    is_free-free-requires
+    mark_of-requires
+    bounds-marks-k
+    margin_less-requires
+    offset_bounds-margins-k-2
+    bounds-margins-k
+    margin_less-requires-2
+    offset_bounds-extrinsics-k-2
+    bounds-extrinsics-k
+    shape_of-marks
+    shape_of-margins
+    shape_of-extrinsics
     returns)

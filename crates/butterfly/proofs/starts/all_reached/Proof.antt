@@ -14,57 +14,57 @@ use Rattle.metrics.specs.Words.{row}
 use Rattle.butterfly.proofs.starts.all_reached.Statement.{statement}
 use Rattle.butterfly.proofs.starts.all_reached.Tie as tie
 
-abbrev invariant-loop : tie.invariant-loop
+abbrev invariant-loop : tie.invariant-loop-s
 invariant-loop states m s₀ s = (s ≤ states) × ((r : ℕ) → r < s → found (row m r) ≡ true)
 
-abbrev decreases-loop : tie.decreases-loop
+abbrev decreases-loop : tie.decreases-loop-s
 decreases-loop states m s₀ s = states - s
 
-loop-holds : tie.Need-loop-init invariant-loop decreases-loop
-loop-holds c = (omega arith, λ r l. absurd (omega arith))
+loop-s-init : tie.Need-loop-s-init invariant-loop decreases-loop
+loop-s-init c = (omega arith, λ r l. absurd (omega arith))
 
-mul-x : tie.Need-overflow-mul-x invariant-loop decreases-loop
-mul-x c = search rules
+offset_bounds-m-s : tie.Need-offset_bounds-m-s invariant-loop decreases-loop
+offset_bounds-m-s c = search rules
 
-array-copy-out-x : tie.Need-array-copy-out-x invariant-loop decreases-loop
-array-copy-out-x c = search rules
+bounds-m-s : tie.Need-bounds-m-s invariant-loop decreases-loop
+bounds-m-s c = search rules
 
 reached-requires : tie.Need-reached-requires invariant-loop decreases-loop
 reached-requires c κs = search rules
 
-returns : tie.Need-returns invariant-loop decreases-loop
-returns c e = absurd (false≢true e)
+returns-then-not-reached : tie.Need-returns-then-not-reached invariant-loop decreases-loop
+returns-then-not-reached c e = absurd (false≢true e)
 
-add-s : tie.Need-overflow-add-s invariant-loop decreases-loop
-add-s c = search rules
+overflow_add-s : tie.Need-overflow_add-s invariant-loop decreases-loop
+overflow_add-s c = search rules
 
-loop-less : tie.Need-loop-smaller invariant-loop decreases-loop
-loop-less c = search rules
+loop-s-smaller : tie.Need-loop-s-smaller invariant-loop decreases-loop
+loop-s-smaller c = search rules
 
-loop-again : tie.Need-loop-preserved invariant-loop decreases-loop
-loop-again c =
+loop-s-preserved : tie.Need-loop-s-preserved invariant-loop decreases-loop
+loop-s-preserved c =
     let read = c.before.before in
     let at = read.before.before in
-    let told = rw (to_z-of_z (fits_of read.x.given)) at c.before.reached.ensures in (
+    let told = rw (to_z-of_z (fits_of read.x-1.given)) at c.reached.ensures in (
       omega arith,
-      below_more (λ r. found (row at.before.args.t2 r) ≡ true) at.loop.s at.loop.invariant.1 (sym told ∙ not-false _ c.if1.false),
+      below_more (λ r. found (row at.args.m r) ≡ true) at.loop-s.s at.loop-s.invariant.1 (sym told ∙ not-false _ c.if-not-reached.false-raw),
     )
 
-returns-2 : tie.Need-returns-2 invariant-loop decreases-loop
-returns-2 c e = record { there = λ s l. c.before.loop.invariant.1 s (omega (arith, c.loop-test.false)) }
+returns : tie.Need-returns invariant-loop decreases-loop
+returns c e = record { there = λ s l. c.loop-s.invariant.1 s (omega (arith, c.loop-s-test.false)) }
 
-pub all-reached-spec : {M : Type 1} → statement M
-all-reached-spec =
+pub all_reached_spec : {M : Type 1} → statement M
+all_reached_spec =
     tie.close
     (tie.spec
     invariant-loop
     decreases-loop
-    loop-holds
-    mul-x
-    array-copy-out-x
+    loop-s-init
+    offset_bounds-m-s
+    bounds-m-s
     reached-requires
-    returns
-    add-s
-    loop-less
-    loop-again
-    returns-2)
+    returns-then-not-reached
+    overflow_add-s
+    loop-s-smaller
+    loop-s-preserved
+    returns)

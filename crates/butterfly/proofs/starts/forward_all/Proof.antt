@@ -32,21 +32,21 @@ module _ (c : tie.Start) where
   few : (c.args.kind.half ≤ 8) × (c.args.early ≤ c.args.sections)
   few = (flight.known.few, c.requires.1.0)
 
-add-states : tie.Need-overflow-add-states
-add-states c = omega (arith, few c.before)
+overflow_add-states : tie.Need-overflow_add-states
+overflow_add-states c = omega (arith, few c.before)
 
-beginning-requires : tie.Need-beginning-requires
-beginning-requires c κs = search rules
+beginning-first-requires : tie.Need-beginning-first-requires
+beginning-first-requires c κs = search rules
 
 -- ---- the first sections
 
 first-row :
-    (c : tie.After-beginning) (t : Table)
-    → let start = c.before.before in Agree (S start) (row c.beginning.result) (forward t (v start) (boundary start.args.start) 0)
-first-row c t = let start = c.before.before in row_begun t (v start) c.beginning.result start.args.start (omega (arith, few start)) c.beginning.ensures
+    (c : tie.After-beginning-first) (t : Table)
+    → let start = c.before.before in Agree (S start) (row c.beginning-first.result) (forward t (v start) (boundary start.args.start) 0)
+first-row c t = let start = c.before.before in row_begun t (v start) c.beginning-first.result start.args.start (omega (arith, few start)) c.beginning-first.ensures
 
-forward-requires : tie.Need-forward-requires
-forward-requires c κs =
+forward-a-requires : tie.Need-forward-a-requires
+forward-a-requires c κs =
     let begun = c.before in
     let start = begun.before.before in (
       record {
@@ -62,34 +62,34 @@ forward-requires c κs =
       ((λ e. absurd (false≢true e)), rw start.requires.1.1 (rows_fit (S start) start.args.early start.args.sections (few start).1)),
     )
 
-all-reached-requires : tie.Need-all-reached-requires
-all-reached-requires c κs = let start = c.before.before.before.before.before in omega (arith, few start)
+all_reached-full-requires : tie.Need-all_reached-full-requires
+all_reached-full-requires c κs = let start = c.before.before.before.before.before in omega (arith, few start)
 
 -- ---- the others
 
-abbrev swept : tie.After-all-reached → tie.After-forward
+abbrev swept : tie.After-all_reached-full → tie.After-forward-a
 swept c = c.before.before
 
-abbrev begun-of : tie.After-forward → tie.After-beginning
+abbrev begun-of : tie.After-forward-a → tie.After-beginning-first
 begun-of c = c.before.before
 
 -- the row before them, of every table with these wings
 middle-row :
-    (c : tie.After-forward) (t : Table)
+    (c : tie.After-forward-a) (t : Table)
     → let start = (begun-of c).before.before in
     Winged t start.args.sections (v start) start.args.kind.half start.args.signs.now
-    → Agree (S start) (row c.forward.result) (forward t (v start) (boundary start.args.start) start.args.early)
+    → Agree (S start) (row c.forward-a.result) (forward t (v start) (boundary start.args.start) start.args.early)
 middle-row c t w =
     let begun = begun-of c in
     let start = begun.before.before in
-    (c.forward.ensures t start.args.sections start.args.start w (first-row begun t)).0
+    (c.forward-a.ensures t start.args.sections start.args.start w (first-row begun t)).0
 
-forward-requires-2 : tie.Need-forward-requires-2
-forward-requires-2 c κs =
+forward-z-requires : tie.Need-forward-z-requires
+forward-z-requires c κs =
     let told = c.before in
     let f = swept told in
     let start = (begun-of f).before.before in
-    let long = f.forward.kept.1.1.1.1.1.1.1.1.0 in (
+    let long = f.forward-a.auto.work in (
       record {
         known = (flight start).known;
         table = (flight start).table;
@@ -101,16 +101,16 @@ forward-requires-2 c κs =
         row_is = middle-row f (flight start).table (flight start).winged;
       },
       (
-        told.all-reached.ensures,
-        rw (long ∙ start.pre.1.1) (rows_fit (S start) start.args.sections start.args.sections (omega arith)),
+        told.all_reached-full.ensures,
+        rw (long ∙ start.requires.1.1) (rows_fit (S start) start.args.sections start.args.sections (omega arith)),
       ),
     )
 
-same_length : tie.Need-same-length
-same_length c =
+shape_of-work : tie.Need-shape_of-work
+shape_of-work c =
     let second = c.before in
     let f = swept second.before.before in
-    second.forward2.auto.1.1.1.1.1.1.1.1.0 ∙ f.forward.kept.1.1.1.1.1.1.1.1.0
+    second.forward-z.auto.work ∙ f.forward-a.auto.work
 
 returns : tie.Need-returns
 returns c =
@@ -120,14 +120,14 @@ returns c =
     let begun = begun-of f in
     let start = begun.before.before in
     λ t w.
-    let (row_moved, rows_more) = second.forward2.ensures t start.args.sections start.args.start w (middle-row f t w) in
-    let (row-there, rows) = f.forward.ensures t start.args.sections start.args.start w (first-row begun t) in
+    let (row_moved, rows_more) = second.forward-z.ensures t start.args.sections start.args.start w (middle-row f t w) in
+    let (row-there, rows) = f.forward-a.ensures t start.args.sections start.args.start w (first-row begun t) in
     record {
       row_is = row_moved;
       rows = rows_more (rows rows_none);
-      reached = λ p. reached_same (λ s l. sym (row-there s l)) (told.all-reached.ensures p);
+      reached = λ p. reached_same (λ s l. sym (row-there s l)) (told.all_reached-full.ensures p);
     }
 
-pub forward-all-spec : {M : Type 1} → statement M
-forward-all-spec =
-    tie.close (tie.spec add-states beginning-requires forward-requires all-reached-requires forward-requires-2 same_length returns)
+pub forward_all_spec : {M : Type 1} → statement M
+forward_all_spec =
+    tie.close (tie.spec overflow_add-states beginning-first-requires forward-a-requires all_reached-full-requires forward-z-requires shape_of-work returns)

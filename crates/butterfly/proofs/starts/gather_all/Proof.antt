@@ -20,7 +20,7 @@ use Rattle.butterfly.specs.laws.Flights.{Winged, Flight, states_of, Stage}
 use Rattle.butterfly.proofs.starts.gather_all.Statement.{statement}
 use Rattle.butterfly.proofs.starts.gather_all.Tie as tie
 
-abbrev invariant-loop : tie.invariant-loop
+abbrev invariant-loop : tie.invariant-loop-start
 invariant-loop kind signs end sections channel apriori margins₀ extrinsics₀ work₀ count any₀ start₀ margins extrinsics work any start =
     (start ≤ count)
     × (length work ≡ length work₀)
@@ -29,7 +29,7 @@ invariant-loop kind signs end sections channel apriori margins₀ extrinsics₀ 
     × ((t : Table) → Winged t sections (values_of channel apriori) kind.half signs → Stage t (values_of channel apriori) end sections start any margins extrinsics)
     × (any ≡ false → (margins ≡ margins₀) × (extrinsics ≡ extrinsics₀))
 
-abbrev decreases-loop : tie.decreases-loop
+abbrev decreases-loop : tie.decreases-loop-start
 decreases-loop kind signs end sections channel apriori margins₀ extrinsics₀ work₀ count any₀ start₀ margins extrinsics work any start = count - start
 
 -- before the first start
@@ -42,66 +42,66 @@ no-stage t v end n gs es = record {
 
 -- ---- names for what is known at the loop's head
 
-abbrev begun : tie.At-loop invariant-loop decreases-loop → tie.Start invariant-loop decreases-loop
+abbrev begun : tie.At-loop-start invariant-loop decreases-loop → tie.Start invariant-loop decreases-loop
 begun at = at.before.before.before
 
 flight :
-    (at : tie.At-loop invariant-loop decreases-loop)
+    (at : tie.At-loop-start invariant-loop decreases-loop)
     → let args = (begun at).args in Flight args.kind args.signs.now args.channel.now args.apriori.now args.sections
 flight at = (begun at).requires.0
 
-is-start : (c : tie.In-loop invariant-loop decreases-loop) → c.before.loop.start < starts (states_of (begun c.before).args.kind) (begun c.before).args.end
-is-start c = rw c.before.before.starts.ensures at c.loop-test.true
+is-start : (c : tie.In-loop-start invariant-loop decreases-loop) → c.loop-start.start < starts (states_of (begun c.before).args.kind) (begun c.before).args.end
+is-start c = rw c.starts-count.ensures at c.loop-start-test.true
 
 -- a state to start in is one of few
-few : (c : tie.In-loop invariant-loop decreases-loop) → c.before.loop.start < 16
+few : (c : tie.In-loop-start invariant-loop decreases-loop) → c.loop-start.start < 16
 few c =
     let at = c.before in
     let w = (flight at).winged in
     let same = ap (λ m. starts m (begun at).args.end) w.halves in
-    omega (arith, start_below w.pass (begun at).args.end {a = at.loop.start} (omega (arith, is-start c, same)), (table_limits w.pass).most_states)
+    omega (arith, start_below w.pass (begun at).args.end {a = at.loop-start.start} (omega (arith, is-start c, same)), (table_limits w.pass).most_states)
 
 -- ---- the needs
 
-add-starts : tie.Need-overflow-add-starts invariant-loop decreases-loop
-add-starts c = omega (arith, c.before.requires.0.known.few)
+overflow_add-kind : tie.Need-overflow_add-kind invariant-loop decreases-loop
+overflow_add-kind c = omega (arith, c.requires.0.known.few)
 
-starts-requires : tie.Need-starts-requires invariant-loop decreases-loop
-starts-requires c κs = search rules
+starts-count-requires : tie.Need-starts-count-requires invariant-loop decreases-loop
+starts-count-requires c κs = search rules
 
-loop-holds : tie.Need-loop-init invariant-loop decreases-loop
-loop-holds c = (omega arith, refl, refl, refl, λ t w. no-stage _ _ _ _ _ _, λ q. (refl, refl))
+loop-start-init : tie.Need-loop-start-init invariant-loop decreases-loop
+loop-start-init c = (omega arith, refl, refl, refl, λ t w. no-stage _ _ _ _ _ _, λ q. (refl, refl))
 
-gather-from-requires : tie.Need-gather-from-requires invariant-loop decreases-loop
-gather-from-requires c κs =
+gather_from-path-requires : tie.Need-gather_from-path-requires invariant-loop decreases-loop
+gather_from-path-requires c κs =
     let turn = c.before.before.before in
     let at = turn.before in
-    let inv = at.loop.invariant in
+    let inv = at.loop-start.invariant in
     let (work_long, (margins_long, extrinsics_long)) = (begun at).requires.1 in
     (flight at, (is-start turn, (inv.1 ∙ work_long, (inv.2 ∙ margins_long, inv.3 ∙ extrinsics_long))))
 
 -- what a turn has done, and where it stands
-abbrev gathered : tie.After-work invariant-loop decreases-loop → tie.After-gather-from invariant-loop decreases-loop
+abbrev gathered : tie.After-work-1 invariant-loop decreases-loop → tie.After-gather_from-path invariant-loop decreases-loop
 gathered c = c.before.before.before
 
-abbrev turn-of : tie.After-work invariant-loop decreases-loop → tie.In-loop invariant-loop decreases-loop
+abbrev turn-of : tie.After-work-1 invariant-loop decreases-loop → tie.In-loop-start invariant-loop decreases-loop
 turn-of c = (gathered c).before.before.before.before
 
-add_start : tie.Need-overflow-add-start invariant-loop decreases-loop
-add_start c = omega (arith, few (turn-of c))
+overflow_add-start : tie.Need-overflow_add-start invariant-loop decreases-loop
+overflow_add-start c = omega (arith, few (turn-of c))
 
-loop-less : tie.Need-loop-smaller invariant-loop decreases-loop
-loop-less c = omega (arith, (turn-of c).loop-test.true)
+loop-start-smaller : tie.Need-loop-start-smaller invariant-loop decreases-loop
+loop-start-smaller c = omega (arith, (turn-of c).loop-start-test.true)
 
-loop-again : tie.Need-loop-preserved invariant-loop decreases-loop
-loop-again c =
-    let more = (gathered c).gather-from in
+loop-start-preserved : tie.Need-loop-start-preserved invariant-loop decreases-loop
+loop-start-preserved c =
+    let more = (gathered c).gather_from-path in
     let turn = turn-of c in
-    let inv = turn.before.loop.inv in (
-      omega (arith, turn.loop-test.taken),
-      more.kept.1.1.1.1.1.1.1.1.1.1.0 ∙ inv.1,
-      more.kept.1.1.1.1.1.1.1.1.0 ∙ inv.2,
-      more.kept.1.1.1.1.1.1.1.1.1.0 ∙ inv.3,
+    let inv = turn.loop-start.invariant in (
+      omega (arith, turn.loop-start-test.true),
+      more.auto.work ∙ inv.1,
+      more.auto.margins ∙ inv.2,
+      more.auto.extrinsics ∙ inv.3,
       λ t w. more.ensures.0 t w (inv.4 t w),
       λ none-now.
           let (margins-same, extrinsics-same, none_before) = more.ensures.1 none-now in
@@ -109,36 +109,36 @@ loop-again c =
           (margins-same ∙ margins-kept, extrinsics-same ∙ extrinsics-kept),
     )
 
-same_length : tie.Need-same-length invariant-loop decreases-loop
-same_length c = c.before.loop.invariant.2
+shape_of-margins : tie.Need-shape_of-margins invariant-loop decreases-loop
+shape_of-margins c = c.loop-start.invariant.2
 
-same-length-2 : tie.Need-same-length-2 invariant-loop decreases-loop
-same-length-2 c = c.before.loop.invariant.3
+shape_of-extrinsics : tie.Need-shape_of-extrinsics invariant-loop decreases-loop
+shape_of-extrinsics c = c.loop-start.invariant.3
 
-same-length-3 : tie.Need-same-length-3 invariant-loop decreases-loop
-same-length-3 c = c.before.loop.invariant.1
+shape_of-work : tie.Need-shape_of-work invariant-loop decreases-loop
+shape_of-work c = c.loop-start.invariant.1
 
 returns : tie.Need-returns invariant-loop decreases-loop
 returns c =
     let at = c.before in
-    let e : at.loop.start ≡ at.before.starts.result = omega (arith, at.loop.invariant.0, c.loop-test.false) in
-    let inv = rw (e, at.before.starts.ensures) at at.loop.invariant in
+    let e : at.loop-start.start ≡ at.starts-count.result = omega (arith, at.loop-start.invariant.0, c.loop-start-test.false) in
+    let inv = rw (e, at.starts-count.ensures) at at.loop-start.invariant in
     (inv.4, inv.5)
 
-pub gather-all-spec : {M : Type 1} → statement M
-gather-all-spec =
+pub gather_all_spec : {M : Type 1} → statement M
+gather_all_spec =
     tie.close
     (tie.spec
     invariant-loop
     decreases-loop
-    add-starts
-    starts-requires
-    loop-holds
-    gather-from-requires
-    add_start
-    loop-less
-    loop-again
-    same_length
-    same-length-2
-    same-length-3
+    overflow_add-kind
+    starts-count-requires
+    loop-start-init
+    gather_from-path-requires
+    overflow_add-start
+    loop-start-smaller
+    loop-start-preserved
+    shape_of-margins
+    shape_of-extrinsics
+    shape_of-work
     returns)

@@ -70,36 +70,36 @@ module _ (c : tie.Start) where
       → Agree S (row c.args.last) (backward t v (ending end a) c.args.sections (c.args.sections - c.args.sections))
   last_row t end a = row_ended t v c.args.sections (ending end a)
 
-add-states : tie.Need-overflow-add-states
-add-states c = omega (arith, few c.before)
+overflow_add-states : tie.Need-overflow_add-states
+overflow_add-states c = omega (arith, few c.before)
 
-late-requires : tie.Need-late-requires
-late-requires c κs = (few c.before).1
+late-to-requires : tie.Need-late-to-requires
+late-to-requires c κs = (few c.before).1
 
 -- ---- the last sections
 
-module _ (c : tie.After-late) where
+module _ (c : tie.After-late-to) where
   abbrev start : tie.Start
   start = c.before.before
 
   -- where they begin
   abbrev to : ℕ
-  to = c.late.result
+  to = c.late-to.result
 
   between : (start.args.early ≤ to) × (to ≤ start.args.sections)
-  between = c.late.ensures
+  between = c.late-to.ensures
 
-gather-requires : tie.Need-gather-requires
-gather-requires c κs =
+gather-z-requires : tie.Need-gather-z-requires
+gather-z-requires c κs =
     let l = c.before.before in
     let s = start l in
-    let (margins_long, extrinsics_long) = s.pre.1.1.1 in (
+    let (margins_long, extrinsics_long) = s.requires.1.1.1 in (
       behind s (to l) s.args.sections s.args.last (between l).1 (omega arith) (last_row s _ _ _ (given s).row_is),
       ((λ e. absurd (false≢true e)), (room s s.args.sections (omega arith), (omega (arith, margins_long), omega (arith, extrinsics_long)))),
     )
 
-module _ (c : tie.After-gather) where
-  abbrev late_of : tie.After-late
+module _ (c : tie.After-gather-z) where
+  abbrev late_of : tie.After-late-to
   late_of = c.before.before.before
 
   -- the row before them, of every table, end and start that have these rows
@@ -108,51 +108,51 @@ module _ (c : tie.After-gather) where
       → let s = start late_of in
       Winged t s.args.sections (v s) s.args.kind.half s.args.signs.now
       → Forward t (v s) a s.args.sections s.args.work.now → Agree (S s) (row s.args.last) (ending end a)
-      → Agree (S s) (row c.gather.result) (backward t (v s) (ending end a) (to late_of) (s.args.sections - to late_of))
+      → Agree (S s) (row c.gather-z.result) (backward t (v s) (ending end a) (to late_of) (s.args.sections - to late_of))
   late-row t end a w rows same =
       let s = start late_of in
-      (c.gather.ensures t s.args.sections end a w (omega arith) rows (last_row s t end a same)).0
+      (c.gather-z.ensures t s.args.sections end a w (omega arith) rows (last_row s t end a same)).0
 
-all-reached-requires : tie.Need-all-reached-requires
-all-reached-requires c κs = omega (arith, few (start (late_of c.before.before)))
+all_reached-requires : tie.Need-all_reached-requires
+all_reached-requires c κs = omega (arith, few (start (late_of c.before.before)))
 
-both-requires : tie.Need-both-requires
-both-requires c κs = search rules
+both-plain-requires : tie.Need-both-plain-requires
+both-plain-requires c κs = search rules
 
 -- ---- those between
 
-module _ (c : tie.After-both) where
-  abbrev told : tie.After-all-reached
+module _ (c : tie.After-both-plain) where
+  abbrev told : tie.After-all_reached
   told = c.before
 
-  abbrev first_of_lem : tie.After-gather
+  abbrev first_of_lem : tie.After-gather-z
   first_of_lem = told.before.before.before
 
   -- where the sums are plain every state is reached on both sides
   both-sides :
-      c.both.result ≡ true
+      c.both-plain.result ≡ true
       → let s = start (late_of first_of_lem) in
-      Reached (S s) (row first_of_lem.gather.result)
+      Reached (S s) (row first_of_lem.gather-z.result)
       × ((k : ℕ) → s.args.early ≤ k → k < to (late_of first_of_lem) → Reached (S s) (row_at s.args.work.now (S s * k)))
   both-sides p =
       let s = start (late_of first_of_lem) in
-      let (is-full, is-reached) = and_both _ _ (sym c.both.ensures ∙ p) in (
-        told.all-reached.ensures is-reached,
+      let (is-full, is-reached) = and_both _ _ (sym c.both-plain.ensures ∙ p) in (
+        told.all_reached.ensures is-reached,
         λ k low high.
             reached_same (row_of (flight s).winged (given s).rows k (omega (arith, between (late_of first_of_lem))))
             (reached_forward (flight s).winged (boundary (given s).start) s.args.early k low ((given s).reached is-full)),
       )
 
-gather-requires-2 : tie.Need-gather-requires-2
-gather-requires-2 c κs =
+gather-a-requires : tie.Need-gather-a-requires
+gather-a-requires c κs =
     let b = c.before.before in
     let first = first_of_lem b in
     let l = late_of first in
     let s = start l in
-    let (margins_long, extrinsics_long) = s.pre.1.1.1 in
-    let margins-kept = first.gather.kept.1.1.1.1.1.1.1.1.1.0 in
-    let extrinsics-kept = first.gather.kept.1.1.1.1.1.1.1.1.1.1.0 in (
-      behind s s.args.early (to l) first.gather.result (between l).0 (between l).1
+    let (margins_long, extrinsics_long) = s.requires.1.1.1 in
+    let margins-kept = first.gather-z.auto.margins in
+    let extrinsics-kept = first.gather-z.auto.extrinsics in (
+      behind s s.args.early (to l) first.gather-z.result (between l).0 (between l).1
           (late-row first (flight s).table (given s).end (given s).start (flight s).winged (given s).rows (given s).row_is),
       (
         both-sides b,
@@ -165,11 +165,11 @@ gather-requires-2 c κs =
 
 -- ---- the first sections
 
-module _ (c : tie.After-gather2) where
-  abbrev both_of : tie.After-both
+module _ (c : tie.After-gather-a) where
+  abbrev both_of : tie.After-both-plain
   both_of = c.before.before.before
 
-  abbrev gathered : tie.After-gather
+  abbrev gathered : tie.After-gather-z
   gathered = first_of_lem both_of
 
   early-row :
@@ -177,21 +177,21 @@ module _ (c : tie.After-gather2) where
       → let s = start (late_of gathered) in
       Winged t s.args.sections (v s) s.args.kind.half s.args.signs.now
       → Forward t (v s) a s.args.sections s.args.work.now → Agree (S s) (row s.args.last) (ending end a)
-      → Agree (S s) (row c.gather2.result) (backward t (v s) (ending end a) s.args.early (s.args.sections - s.args.early))
+      → Agree (S s) (row c.gather-a.result) (backward t (v s) (ending end a) s.args.early (s.args.sections - s.args.early))
   early-row t end a w rows same =
       let l = late_of gathered in
       let s = start l in
-      (c.gather2.ensures t s.args.sections end a w (between l).1 (rows_fewer (between l).1 rows) (late-row gathered t end a w rows same)).0
+      (c.gather-a.ensures t s.args.sections end a w (between l).1 (rows_fewer (between l).1 rows) (late-row gathered t end a w rows same)).0
 
-gather-requires-3 : tie.Need-gather-requires-3
-gather-requires-3 c κs =
+gather-requires : tie.Need-gather-requires
+gather-requires c κs =
     let second = c.before.before.before.before in
     let first = gathered second in
     let s = start (late_of first) in
-    let (margins_long, extrinsics_long) = s.pre.1.1.1 in
-    let margins-kept = second.gather2.auto.1.1.1.1.1.1.1.1.1.0 ∙ first.gather.kept.1.1.1.1.1.1.1.1.1.0 in
-    let extrinsics-kept = second.gather2.auto.1.1.1.1.1.1.1.1.1.1.0 ∙ first.gather.kept.1.1.1.1.1.1.1.1.1.1.0 in (
-      behind s 0 s.args.early second.gather2.result (omega arith) (few s).1
+    let (margins_long, extrinsics_long) = s.requires.1.1.1 in
+    let margins-kept = second.gather-a.auto.margins ∙ first.gather-z.auto.margins in
+    let extrinsics-kept = second.gather-a.auto.extrinsics ∙ first.gather-z.auto.extrinsics in (
+      behind s 0 s.args.early second.gather-a.result (omega arith) (few s).1
           (early-row second (flight s).table (given s).end (given s).start (flight s).winged (given s).rows (given s).row_is),
       (
         (λ e. absurd (false≢true e)),
@@ -199,21 +199,21 @@ gather-requires-3 c κs =
       ),
     )
 
-same_length : tie.Need-same-length
-same_length c =
+shape_of-margins : tie.Need-shape_of-margins
+shape_of-margins c =
     let third = c.before.before in
     let second = third.before.before.before.before.before in
-    third.gather3.auto.1.1.1.1.1.1.1.1.1.0
-    ∙ second.gather2.auto.1.1.1.1.1.1.1.1.1.0
-    ∙ (gathered second).gather.auto.1.1.1.1.1.1.1.1.1.0
+    third.gather.auto.margins
+    ∙ second.gather-a.auto.margins
+    ∙ (gathered second).gather-z.auto.margins
 
-same-length-2 : tie.Need-same-length-2
-same-length-2 c =
+shape_of-extrinsics : tie.Need-shape_of-extrinsics
+shape_of-extrinsics c =
     let third = c.before.before in
     let second = third.before.before.before.before.before in
-    third.gather3.auto.1.1.1.1.1.1.1.1.1.1.0
-    ∙ second.gather2.auto.1.1.1.1.1.1.1.1.1.1.0
-    ∙ (gathered second).gather.auto.1.1.1.1.1.1.1.1.1.1.0
+    third.gather.auto.extrinsics
+    ∙ second.gather-a.auto.extrinsics
+    ∙ (gathered second).gather-z.auto.extrinsics
 
 returns : tie.Need-returns
 returns c =
@@ -225,24 +225,24 @@ returns c =
     let n = s.args.sections in
     λ t end a w rows same known.
     let ms : List ℕ = replicate n 0 in
-    let (late_is, late-left) = first.gather.ensures t n end a w (omega arith) rows (last_row s t end a same) in
-    let (early-is, early-left) = second.gather2.ensures t n end a w (between l).1 (rows_fewer (between l).1 rows) late_is in
-    let (first_is, first-left) = third.gather3.ensures t n end a w (few s).1 (rows_fewer (few s).1 rows) early-is in
+    let (late_is, late-left) = first.gather-z.ensures t n end a w (omega arith) rows (last_row s t end a same) in
+    let (early-is, early-left) = second.gather-a.ensures t n end a w (between l).1 (rows_fewer (between l).1 rows) late_is in
+    let (first_is, first-left) = third.gather.ensures t n end a w (few s).1 (rows_fewer (few s).1 rows) early-is in
     all_gathered w.pass known {left = 0} (omega arith)
     (first-left ms _ _ (early-left ms _ _ (late-left ms _ _ (left_none t (v s) _ _ _ _ n _ _ ms (length-replicate n 0) known.zeros_long known.ones_long))))
     refl
 
-pub gather-back-spec : {M : Type 1} → statement M
-gather-back-spec =
+pub gather_back_spec : {M : Type 1} → statement M
+gather_back_spec =
     tie.close
     (tie.spec
-    add-states
-    late-requires
+    overflow_add-states
+    late-to-requires
+    gather-z-requires
+    all_reached-requires
+    both-plain-requires
+    gather-a-requires
     gather-requires
-    all-reached-requires
-    both-requires
-    gather-requires-2
-    gather-requires-3
-    same_length
-    same-length-2
+    shape_of-margins
+    shape_of-extrinsics
     returns)

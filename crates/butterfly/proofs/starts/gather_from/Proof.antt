@@ -72,20 +72,20 @@ module _ (c : tie.Start) where
   few : c.args.kind.half ≤ 8
   few = flight.known.few
 
-edge-requires : tie.Need-edge-requires
-edge-requires c κs = search rules
+edge-early-requires : tie.Need-edge-early-requires
+edge-early-requires c κs = search rules
 
-forward-all-requires : tie.Need-forward-all-requires
-forward-all-requires c κs = let start = c.before.before in (flight start, (c.before.edge.ensures, start.requires.1.1.0))
+forward_all-front-requires : tie.Need-forward_all-front-requires
+forward_all-front-requires c κs = let start = c.before.before in (flight start, (c.edge-early.ensures, start.requires.1.1.0))
 
-ending-requires : tie.Need-ending-requires
-ending-requires c κs = search rules
+ending-last-requires : tie.Need-ending-last-requires
+ending-last-requires c κs = search rules
 
-add-arrived : tie.Need-overflow-add-arrived
-add-arrived c = omega (arith, few c.before.before.before.before.before.before.before)
+overflow_add-kind : tie.Need-overflow_add-kind
+overflow_add-kind c = omega (arith, few c.before.before.before.before.before.before.before)
 
-arrived-requires : tie.Need-arrived-requires
-arrived-requires c κs = search rules
+arrived-path-requires : tie.Need-arrived-path-requires
+arrived-path-requires c κs = search rules
 
 both-requires : tie.Need-both-requires
 both-requires c κs = search rules
@@ -93,50 +93,50 @@ both-requires c κs = search rules
 -- ---- where both sweeps of this start have come to
 
 module _ (c : tie.After-both) where
-  abbrev arrived : tie.After-arrived
+  abbrev arrived : tie.After-arrived-path
   arrived = c.before
 
-  abbrev ended : tie.After-ending
+  abbrev ended : tie.After-ending-last
   ended = arrived.before.before
 
-  abbrev swept : tie.After-forward-all
+  abbrev swept : tie.After-forward_all-front
   swept = ended.before.before.before
 
-  abbrev edged : tie.After-edge
+  abbrev edged : tie.After-edge-early
   edged = swept.before.before
 
   abbrev start : tie.Start
   start = edged.before
 
-  last_is : Agree (S start) (row ended.ending.result) (ending start.args.end start.args.start)
-  last_is s l = ended.ending.ensures s (omega (arith, few start))
+  last_is : Agree (S start) (row ended.ending-last.result) (ending start.args.end start.args.start)
+  last_is s l = ended.ending-last.ensures s (omega (arith, few start))
 
   module _ (t : Table) (w : Winged t start.args.sections (v start) start.args.kind.half start.args.signs.now) where
     reach-is :
-        Reach t start.args.sections (v start) start.args.start edged.edge.result (S start) swept.forward-all.result.full
-        swept.forward-all.result.metrics swept.forward-all.last.1.1.1.1.1.1.1.0
-    reach-is = swept.forward-all.ensures t w
+        Reach t start.args.sections (v start) start.args.start edged.edge-early.result (S start) swept.forward_all-front.result.full
+        swept.forward_all-front.result.metrics swept.forward_all-front.new.work
+    reach-is = swept.forward_all-front.ensures t w
 
-    path-is : arrived.arrived.result ≡ found (reach_from t (v start) start.args.end start.args.sections start.args.start)
+    path-is : arrived.arrived-path.result ≡ found (reach_from t (v start) start.args.end start.args.sections start.args.start)
     path-is =
-        arrived.arrived.ensures
-        ∙ met w start.args.end start.args.start swept.forward-all.result.metrics ended.ending.result reach-is.row_is ended.ending.ensures
+        arrived.arrived-path.ensures
+        ∙ met w start.args.end start.args.start swept.forward_all-front.result.metrics ended.ending-last.result reach-is.row_is ended.ending-last.ensures
 
     -- whether one of the states up to this one has a path
     some-path :
         {gs es : List ℤ} → Stage t (v start) start.args.end start.args.sections start.args.start start.args.any gs es
-        → (start.args.any || arrived.arrived.result)
+        → (start.args.any || arrived.arrived-path.result)
         ≡ found (over (start.args.start + 1) (reach_from t (v start) start.args.end start.args.sections))
     some-path stage = ap₂ ◌||◌ stage.reached path-is ∙ sym (reached_more _ start.args.start)
 
-same_length : tie.Need-same-length
-same_length c = (swept c.before).forward-all.kept.1.1.1.1.1.1.1.0
+shape_of-work-then-both : tie.Need-shape_of-work-then-both
+shape_of-work-then-both c = (swept c.before).forward_all-front.auto.work
 
-returns : tie.Need-returns
-returns c =
+returns-then-both : tie.Need-returns-then-both
+returns-then-both c =
     let b = c.before in
     let s = start b in
-    let (none_before, none_here) = neither s.args.any (arrived b).arrived.result (sym b.both.ensures ∙ c.if1.true) in (
+    let (none_before, none_here) = neither s.args.any (arrived b).arrived-path.result (sym b.both.ensures ∙ c.if-both.true) in (
       (λ t w stage. record {
         reached = sym (ap₂ ◌||◌ none_before none_here) ∙ some-path b t w stage;
         bests = λ q. absurd (false≢true q);
@@ -146,12 +146,12 @@ returns c =
 
 -- ---- a path
 
-gather-back-requires : tie.Need-gather-back-requires
-gather-back-requires c κs =
-    let b = c.before.before.before.before in
+gather_back-requires : tie.Need-gather_back-requires
+gather_back-requires c κs =
+    let b = c.before.before.before in
     let s = start b in
     let reached = reach-is b (flight s).table (flight s).winged in
-    let (margins_long, extrinsics_long) = s.pre.1.1.1 in (
+    let (margins_long, extrinsics_long) = s.requires.1.1.1 in (
       record {
         flight = flight s;
         end = s.args.end;
@@ -160,49 +160,49 @@ gather-back-requires c κs =
         reached = reached.reached;
         row_is = last_is b;
       },
-      ((edged b).edge.ensures, ((swept b).forward-all.auto.1.1.1.1.1.1.1.0 ∙ s.pre.1.1.0, (margins_long, extrinsics_long))),
+      ((edged b).edge-early.ensures, ((swept b).forward_all-front.auto.work ∙ s.requires.1.1.0, (margins_long, extrinsics_long))),
     )
 
-same-length-2 : tie.Need-same-length-2
-same-length-2 c = search rules
+shape_of-margins : tie.Need-shape_of-margins
+shape_of-margins c = search rules
 
-same-length-3 : tie.Need-same-length-3
-same-length-3 c = search rules
+shape_of-extrinsics : tie.Need-shape_of-extrinsics
+shape_of-extrinsics c = search rules
 
-same-length-4 : tie.Need-same-length-4
-same-length-4 c = search rules
+shape_of-work : tie.Need-shape_of-work
+shape_of-work c = search rules
 
-returns-2 : tie.Need-returns-2
-returns-2 c =
+returns : tie.Need-returns
+returns c =
     let back = c.before.before in
     let branch = back.before.before.before.before in
-    let b = branch.before in
+    let b = branch in
     let s = start b in
-    let (margins_long, extrinsics_long) = s.pre.1.1.1 in
-    let there = one_of s.args.any (arrived b).arrived.result (sym b.both.ensures ∙ branch.if1.false) in (
+    let (margins_long, extrinsics_long) = s.requires.1.1.1 in
+    let there = one_of s.args.any (arrived b).arrived-path.result (sym b.both.ensures ∙ c.if-both.false) in (
       (λ t w stage. record {
         reached = sym there ∙ some-path b t w stage;
         bests = λ q.
-            back.gather-back.ensures t s.args.end s.args.start w (reach-is b t w).rows (last_is b)
-            (bests-so-far w s.args.end s.args.start s.args.any stage s.pre.1.0 margins_long extrinsics_long);
+            back.gather_back.ensures t s.args.end s.args.start w (reach-is b t w).rows (last_is b)
+            (bests-so-far w s.args.end s.args.start s.args.any stage s.requires.1.0 margins_long extrinsics_long);
       }),
       λ q. absurd (false≢true (sym q)),
     )
 
-pub gather-from-spec : {M : Type 1} → statement M
-gather-from-spec =
+pub gather_from_spec : {M : Type 1} → statement M
+gather_from_spec =
     tie.close
     (tie.spec
-    edge-requires
-    forward-all-requires
-    ending-requires
-    add-arrived
-    arrived-requires
+    edge-early-requires
+    forward_all-front-requires
+    ending-last-requires
+    overflow_add-kind
+    arrived-path-requires
     both-requires
-    same_length
-    returns
-    gather-back-requires
-    same-length-2
-    same-length-3
-    same-length-4
-    returns-2)
+    shape_of-work-then-both
+    returns-then-both
+    gather_back-requires
+    shape_of-margins
+    shape_of-extrinsics
+    shape_of-work
+    returns)

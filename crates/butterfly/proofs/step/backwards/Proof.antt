@@ -42,30 +42,30 @@ record So-far
   zero_is : held zeros ≡ best-through target branch-metric half (row_at work at) (row m) 0 i
   one_is : held ones ≡ best-through target branch-metric half (row_at work at) (row m) 1 i
 
-abbrev invariant-loop : tie.invariant-loop
+abbrev invariant-loop : tie.invariant-loop-i
 invariant-loop plain half signs own other work at m out₀ zero₀ one₀ i₀ out zero one i =
     (i ≤ half)
     × (length out ≡ 16)
     × ((target : ℕ → ℕ → ℕ) (branch-metric : ℕ → ℕ → ℤ) → Wings target branch-metric half signs (to_z w32 own) (to_z w32 other)
     → So-far target branch-metric half m work at out (to_z w32 zero) (to_z w32 one) i)
 
-abbrev decreases-loop : tie.decreases-loop
+abbrev decreases-loop : tie.decreases-loop-i
 decreases-loop plain half signs own other work at m out₀ zero₀ one₀ i₀ out zero one i = half - i
 
 -- ---- a turn of the loop
 
-module _ (c : tie.In-loop invariant-loop decreases-loop) where
+module _ (c : tie.In-loop-i invariant-loop decreases-loop) where
   abbrev start : tie.Start invariant-loop decreases-loop
   start = c.before.before
 
   abbrev i : ℕ
-  i = c.before.loop.i
+  i = c.loop-i.i
 
   abbrev half : ℕ
   half = start.args.half
 
   inside : (i < half) × (half ≤ 8) × (start.args.at + (half + half) ≤ length start.args.work.now)
-  inside = (c.loop-test.true, start.pre.0.few, start.pre.1.1.0)
+  inside = (c.loop-i-test.true, start.requires.0.few, start.requires.1.1.0)
 
   abbrev sign_at : ℕ → ℤ
   sign_at k = get_or start.args.signs.now k (pos 0)
@@ -74,24 +74,24 @@ module _ (c : tie.In-loop invariant-loop decreases-loop) where
   wing-gain = gain_at start.args.signs.now start.args.own start.args.other i
 
   wing-gain-small : Within 10237 wing-gain
-  wing-gain-small = gain_small (sign_at i) (sign_at (8 + i)) start.pre.0.own_small start.pre.0.other_small
+  wing-gain-small = gain_small (sign_at i) (sign_at (8 + i)) start.requires.0.own_small start.requires.0.other_small
 
   -- the metrics after the section, and those before it
   abbrev after : ℕ → ℤ
-  after s = get_or start.args.t6 s (pos 0)
+  after s = get_or start.args.m s (pos 0)
 
   abbrev before : ℕ → ℤ
   before s = get_or start.args.work.now (start.args.at + s) (pos 0)
 
   module _ (s : ℕ) (l : s < half + half) where
     after_small : Small 50311168 (held (after s))
-    after_small = start.pre.1.0.small s l
+    after_small = start.requires.1.0.small s l
 
     after-there : start.args.plain ≡ true → held (after s) ≡ some (after s)
-    after-there p = found_some (after s) ((start.pre.1.1.1.1 p).0.there s l)
+    after-there p = found_some (after s) ((start.requires.1.1.1.1 p).0.there s l)
 
-loop-holds : tie.Need-loop-init invariant-loop decreases-loop
-loop-holds c = (
+loop-i-init : tie.Need-loop-i-init invariant-loop decreases-loop
+loop-i-init c = (
   omega arith,
   refl,
   λ target branch-metric wings. record {
@@ -102,8 +102,8 @@ loop-holds c = (
   },
 )
 
-gain-at-requires : tie.Need-gain-at-requires invariant-loop decreases-loop
-gain-at-requires c κs =
+gain_at-h-requires : tie.Need-gain_at-h-requires invariant-loop decreases-loop
+gain_at-h-requires c κs =
     let ready = (start c).requires.0 in
     rw (to_z-of_z (start c).ranges.own, to_z-of_z (start c).ranges.other) (
       omega (arith, inside c),
@@ -113,31 +113,31 @@ gain-at-requires c κs =
       ),
     )
 
-mul-p : tie.Need-overflow-mul-p invariant-loop decreases-loop
-mul-p c = omega (arith, inside c.before)
+overflow_mul-p : tie.Need-overflow_mul-p invariant-loop decreases-loop
+overflow_mul-p c = omega (arith, inside c.before)
 
-mul-p-2 : tie.Need-overflow-mul-p-2 invariant-loop decreases-loop
-mul-p-2 c = omega (arith, inside c.before)
+offset_bounds-m-i : tie.Need-offset_bounds-m-i invariant-loop decreases-loop
+offset_bounds-m-i c = omega (arith, inside c.before)
 
-array-copy-out-p : tie.Need-array-copy-out-p invariant-loop decreases-loop
-array-copy-out-p c = omega (arith, inside c.before)
+bounds-m-i : tie.Need-bounds-m-i invariant-loop decreases-loop
+bounds-m-i c = omega (arith, inside c.before)
 
-mul-q : tie.Need-overflow-mul-q invariant-loop decreases-loop
-mul-q c = omega (arith, inside c.before.before)
+overflow_mul-q : tie.Need-overflow_mul-q invariant-loop decreases-loop
+overflow_mul-q c = omega (arith, inside c.before.before)
 
-add-q : tie.Need-overflow-add-q invariant-loop decreases-loop
-add-q c = omega (arith, inside c.before.before)
+overflow_add-q : tie.Need-overflow_add-q invariant-loop decreases-loop
+overflow_add-q c = omega (arith, inside c.before.before)
 
-mul-q-2 : tie.Need-overflow-mul-q-2 invariant-loop decreases-loop
-mul-q-2 c = omega (arith, inside c.before.before)
+offset_bounds-m-i-in-loop-i : tie.Need-offset_bounds-m-i-in-loop-i invariant-loop decreases-loop
+offset_bounds-m-i-in-loop-i c = omega (arith, inside c.before.before)
 
-array-copy-out-q : tie.Need-array-copy-out-q invariant-loop decreases-loop
-array-copy-out-q c = omega (arith, inside c.before.before)
+bounds-m-i-in-loop-i : tie.Need-bounds-m-i-in-loop-i invariant-loop decreases-loop
+bounds-m-i-in-loop-i c = omega (arith, inside c.before.before)
 
 -- ---- what was read
 
-module _ (c : tie.After-q invariant-loop decreases-loop) where
-  abbrev turn : tie.In-loop invariant-loop decreases-loop
+module _ (c : tie.After-q-1 invariant-loop decreases-loop) where
+  abbrev turn : tie.In-loop-i invariant-loop decreases-loop
   turn = c.before.before.before
 
   abbrev at-even : ℕ
@@ -149,16 +149,16 @@ module _ (c : tie.After-q invariant-loop decreases-loop) where
   abbrev at-far : ℕ
   at-far = i turn + half turn
 
-  gain-is : to_z w32 (of_z w32 c.before.before.gain-at.result) ≡ wing-gain turn
+  gain-is : to_z w32 (of_z w32 c.gain_at-h.result) ≡ wing-gain turn
   gain-is =
-      let called = c.before.before.gain-at in
-      to_z-of_z (fits_of called.type-inv) ∙ rw (to_z-of_z (start turn).fits.own, to_z-of_z (start turn).fits.other) at called.ensures
+      let called = c.gain_at-h in
+      to_z-of_z {w = w32} (fits_of called.type_inv) ∙ rw (to_z-of_z (start turn).ranges.own, to_z-of_z (start turn).ranges.other) at called.ensures
 
   even_is : to_z w32 (of_z w32 (after turn at-even)) ≡ after turn at-even
-  even_is = to_z-of_z (fits_of c.before.p.given)
+  even_is = to_z-of_z {w = w32} (fits_of c.p-1.given)
 
   odd_is : to_z w32 (of_z w32 (after turn at-odd)) ≡ after turn at-odd
-  odd_is = to_z-of_z (fits_of c.q.given)
+  odd_is = to_z-of_z {w = w32} (fits_of c.q-1.given)
 
   even-below : at-even < half turn + half turn
   even-below = omega (arith, inside turn)
@@ -174,14 +174,14 @@ either-requires c κs =
       (after_small t _ (odd_below c), (wing-gain-small t, λ p. (after-there t _ (even-below c) p, after-there t _ (odd_below c) p))),
     )
 
-mul-out : tie.Need-overflow-mul-out invariant-loop decreases-loop
-mul-out c = omega (arith, inside (turn c.before))
+offset_bounds-out-i : tie.Need-offset_bounds-out-i invariant-loop decreases-loop
+offset_bounds-out-i c = omega (arith, inside (turn c.before))
 
-array-set-from-out : tie.Need-array-set-from-out invariant-loop decreases-loop
-array-set-from-out c = omega (arith, inside (turn c.before))
+bounds-out-i : tie.Need-bounds-out-i invariant-loop decreases-loop
+bounds-out-i c = omega (arith, inside (turn c.before))
 
-either-requires-2 : tie.Need-either-requires-2 invariant-loop decreases-loop
-either-requires-2 c κs =
+either-requires-in-loop-i : tie.Need-either-requires-in-loop-i invariant-loop decreases-loop
+either-requires-in-loop-i c κs =
     let read = c.before in
     let t = turn read in
     rw (even_is read, odd_is read, gain-is read) (
@@ -189,17 +189,17 @@ either-requires-2 c κs =
       (after_small t _ (even-below read), (wing-gain-small t, λ p. (after-there t _ (odd_below read) p, after-there t _ (even-below read) p))),
     )
 
-add-out : tie.Need-overflow-add-out invariant-loop decreases-loop
-add-out c = omega (arith, inside (turn c.before.before))
+overflow_add-out : tie.Need-overflow_add-out invariant-loop decreases-loop
+overflow_add-out c = omega (arith, inside (turn c.before.before))
 
-mul-out-2 : tie.Need-overflow-mul-out-2 invariant-loop decreases-loop
-mul-out-2 c = omega (arith, inside (turn c.before.before))
+offset_bounds-out-i-in-loop-i : tie.Need-offset_bounds-out-i-in-loop-i invariant-loop decreases-loop
+offset_bounds-out-i-in-loop-i c = omega (arith, inside (turn c.before.before))
 
-array-set-from-out-2 : tie.Need-array-set-from-out-2 invariant-loop decreases-loop
-array-set-from-out-2 c = omega (arith, inside (turn c.before.before))
+bounds-out-i-in-loop-i : tie.Need-bounds-out-i-in-loop-i invariant-loop decreases-loop
+bounds-out-i-in-loop-i c = omega (arith, inside (turn c.before.before))
 
-through-at-requires : tie.Need-through-at-requires invariant-loop decreases-loop
-through-at-requires c κs =
+through_at-straight-requires : tie.Need-through_at-straight-requires invariant-loop decreases-loop
+through_at-straight-requires c κs =
     let read = c.before.before in
     let t = turn read in
     rw (even_is read, odd_is read, gain-is read) (
@@ -207,14 +207,14 @@ through-at-requires c κs =
       (
         (inside t).2,
         (
-          (start t).pre.1.1.1.0,
+          (start t).requires.1.1.1.0,
           (
             after_small t _ (even-below read),
             (
               after_small t _ (odd_below read),
               (
                 wing-gain-small t,
-                λ p. (((start t).pre.1.1.1.1 p).1, after-there t _ (even-below read) p, after-there t _ (odd_below read) p),
+                λ p. (((start t).requires.1.1.1.1 p).1, after-there t _ (even-below read) p, after-there t _ (odd_below read) p),
               ),
             ),
           ),
@@ -222,20 +222,20 @@ through-at-requires c κs =
       ),
     )
 
-sub-through-at : tie.Need-overflow-sub-through-at invariant-loop decreases-loop
-sub-through-at c =
+overflow_sub-h : tie.Need-overflow_sub-h invariant-loop decreases-loop
+overflow_sub-h c =
     let read = c.before.before.before in
     rw (gain-is read, zero_minus) (small_fits _ (within_more (omega arith) (opposite_small (wing-gain-small (turn read)))))
 
 -- the opposite metric
 against-is :
-    (c : tie.After-through-at invariant-loop decreases-loop)
+    (c : tie.After-through_at-straight invariant-loop decreases-loop)
     → let read = c.before.before.before in
-    to_z w32 (of_z w32 (pos 0 -ℤ to_z w32 (of_z w32 read.before.before.gain-at.result))) ≡ neg_ℤ (wing-gain (turn read))
-against-is c = let read = c.before.before.before in to_z-of_z (sub-through-at c) ∙ rw (gain-is read) (zero_minus (wing-gain (turn read)))
+    to_z w32 (of_z w32 (pos 0 -ℤ to_z w32 (of_z w32 read.gain_at-h.result))) ≡ neg_ℤ (wing-gain (turn read))
+against-is c = let read = c.before.before.before in to_z-of_z (overflow_sub-h c) ∙ rw (gain-is read) (zero_minus (wing-gain (turn read)))
 
-through-at-requires-2 : tie.Need-through-at-requires-2 invariant-loop decreases-loop
-through-at-requires-2 c κs =
+through_at-crossed-requires : tie.Need-through_at-crossed-requires invariant-loop decreases-loop
+through_at-crossed-requires c κs =
     let read = c.before.before.before in
     let t = turn read in
     rw (even_is read, odd_is read, against-is c) (
@@ -243,14 +243,14 @@ through-at-requires-2 c κs =
       (
         (inside t).2,
         (
-          (start t).pre.1.1.1.0,
+          (start t).requires.1.1.1.0,
           (
             after_small t _ (odd_below read),
             (
               after_small t _ (even-below read),
               (
                 opposite_small (wing-gain-small t),
-                λ p. (((start t).pre.1.1.1.1 p).1, after-there t _ (odd_below read) p, after-there t _ (even-below read) p),
+                λ p. (((start t).requires.1.1.1.1 p).1, after-there t _ (odd_below read) p, after-there t _ (even-below read) p),
               ),
             ),
           ),
@@ -258,45 +258,45 @@ through-at-requires-2 c κs =
       ),
     )
 
-raised-requires : tie.Need-raised-requires invariant-loop decreases-loop
-raised-requires c κs = omega (arith, inside (turn c.before.before.before.before))
+raised-best0-requires : tie.Need-raised-best0-requires invariant-loop decreases-loop
+raised-best0-requires c κs = omega (arith, inside (turn c.before.before.before.before))
 
-raised-requires-2 : tie.Need-raised-requires-2 invariant-loop decreases-loop
-raised-requires-2 c κs = omega (arith, inside (turn c.before.before.before.before.before))
+raised-best1-requires : tie.Need-raised-best1-requires invariant-loop decreases-loop
+raised-best1-requires c κs = omega (arith, inside (turn c.before.before.before.before.before))
 
-add-i : tie.Need-overflow-add-i invariant-loop decreases-loop
-add-i c = omega (arith, inside (turn c.before.before.before.before.before.before))
+overflow_add-i : tie.Need-overflow_add-i invariant-loop decreases-loop
+overflow_add-i c = omega (arith, inside (turn c.before.before.before.before.before.before))
 
-loop-less : tie.Need-loop-smaller invariant-loop decreases-loop
-loop-less c = search rules
+loop-i-smaller : tie.Need-loop-i-smaller invariant-loop decreases-loop
+loop-i-smaller c = search rules
 
 -- ---- what a turn works out
 
-module _ (c : tie.After-raised2 invariant-loop decreases-loop) where
-  abbrev read : tie.After-q invariant-loop decreases-loop
+module _ (c : tie.After-raised-best1 invariant-loop decreases-loop) where
+  abbrev read : tie.After-q-1 invariant-loop decreases-loop
   read = c.before.before.before.before.before.before
 
-  abbrev here : tie.In-loop invariant-loop decreases-loop
+  abbrev here : tie.In-loop-i invariant-loop decreases-loop
   here = turn read
 
   abbrev near-worked : tie.After-either invariant-loop decreases-loop
   near-worked = c.before.before.before.before.before
 
-  abbrev far-worked : tie.After-either2 invariant-loop decreases-loop
+  abbrev far-worked : tie.After-either-in-loop-i invariant-loop decreases-loop
   far-worked = c.before.before.before.before
 
-  abbrev straight-worked : tie.After-through-at invariant-loop decreases-loop
+  abbrev straight-worked : tie.After-through_at-straight invariant-loop decreases-loop
   straight-worked = c.before.before.before
 
-  abbrev crossed-worked : tie.After-through-at2 invariant-loop decreases-loop
+  abbrev crossed-worked : tie.After-through_at-crossed invariant-loop decreases-loop
   crossed-worked = c.before.before
 
   -- the words of the best paths through the wing
   abbrev straight-word : ℤ
-  straight-word = to_z w32 (of_z w32 straight-worked.through-at.result)
+  straight-word = to_z w32 (of_z w32 straight-worked.through_at-straight.result)
 
   abbrev crossed-word : ℤ
-  crossed-word = to_z w32 (of_z w32 crossed-worked.through-at2.result)
+  crossed-word = to_z w32 (of_z w32 crossed-worked.through_at-crossed.result)
 
   straight-held :
       held straight-word
@@ -304,8 +304,8 @@ module _ (c : tie.After-raised2 invariant-loop decreases-loop) where
       (plus (held (before here (i here))) (plus (held (after here (at-even read))) (some (wing-gain here))))
       (plus (held (before here (at-far read))) (plus (held (after here (at-odd read))) (some (wing-gain here))))
   straight-held =
-      kept straight-worked.through-at.result straight-worked.through-at.ok
-      (rw (even_is read, odd_is read, gain-is read) at straight-worked.through-at.ensures)
+      kept straight-worked.through_at-straight.result straight-worked.through_at-straight.type_inv
+      (rw (even_is read, odd_is read, gain-is read) at straight-worked.through_at-straight.ensures)
 
   crossed-held :
       held crossed-word
@@ -313,43 +313,43 @@ module _ (c : tie.After-raised2 invariant-loop decreases-loop) where
       (plus (held (before here (i here))) (plus (held (after here (at-odd read))) (some (neg_ℤ (wing-gain here)))))
       (plus (held (before here (at-far read))) (plus (held (after here (at-even read))) (some (neg_ℤ (wing-gain here)))))
   crossed-held =
-      kept crossed-worked.through-at2.result crossed-worked.through-at2.ok
-      (rw (even_is read, odd_is read, against-is straight-worked) at crossed-worked.through-at2.ensures)
+      kept crossed-worked.through_at-crossed.result crossed-worked.through_at-crossed.type_inv
+      (rw (even_is read, odd_is read, against-is straight-worked) at crossed-worked.through_at-crossed.ensures)
 
   -- the bit that leads straight on
   abbrev bit : Bool
   bit = straight_at (start here).args.signs.now (i here)
 
   zero_held :
-      held (to_z w32 (of_z w32 c.before.raised.result))
-      ≡ larger (held (to_z w32 here.before.loop.zero)) (held (cond bit straight-word crossed-word))
-  zero_held = kept c.before.raised.result c.before.raised.type-inv c.before.raised.ensures
+      held (to_z w32 (of_z w32 c.raised-best0.result))
+      ≡ larger (held (to_z w32 here.loop-i.zero-bits)) (held (cond bit straight-word crossed-word))
+  zero_held = kept c.raised-best0.result c.raised-best0.type_inv c.raised-best0.ensures
 
   one-held :
-      held (to_z w32 (of_z w32 c.raised2.result))
-      ≡ larger (held (to_z w32 here.before.loop.one)) (held (cond bit crossed-word straight-word))
-  one-held = kept c.raised2.result c.raised2.type-inv c.raised2.ensures
+      held (to_z w32 (of_z w32 c.raised-best1.result))
+      ≡ larger (held (to_z w32 here.loop-i.one-bits)) (held (cond bit crossed-word straight-word))
+  one-held = kept c.raised-best1.result c.raised-best1.type_inv c.raised-best1.ensures
 
   module _
       (target : ℕ → ℕ → ℕ) (branch-metric : ℕ → ℕ → ℤ)
       (wings : Wings target branch-metric (half here) (start here).args.signs.now (start here).args.own (start here).args.other)
     where
       abbrev row-after : Row
-      row-after = row (start here).args.t6
+      row-after = row (start here).args.m
 
       abbrev row_before : Row
       row_before = row_at (start here).args.work.now (start here).args.at
 
       near-goes : held (to_z w32 (of_z w32 near-worked.either.result)) ≡ retreat target branch-metric row-after (i here)
       near-goes =
-          kept near-worked.either.result near-worked.either.ok
+          kept near-worked.either.result near-worked.either.type_inv
           (rw (even_is read, odd_is read, gain-is read) at near-worked.either.ensures
           ∙ sym (near_before wings row-after (i here) (inside here).0))
 
-      far-goes : held (to_z w32 (of_z w32 far-worked.either2.result)) ≡ retreat target branch-metric row-after (at-far read)
+      far-goes : held (to_z w32 (of_z w32 far-worked.either-in-loop-i.result)) ≡ retreat target branch-metric row-after (at-far read)
       far-goes =
-          kept far-worked.either2.result far-worked.either2.ok
-          (rw (even_is read, odd_is read, gain-is read) at far-worked.either2.ensures
+          kept far-worked.either-in-loop-i.result far-worked.either-in-loop-i.type_inv
+          (rw (even_is read, odd_is read, gain-is read) at far-worked.either-in-loop-i.ensures
           ∙ sym (far_before wings row-after (i here) (inside here).0))
 
       abbrev passes : ℕ → Option ℤ
@@ -368,22 +368,22 @@ module _ (c : tie.After-raised2 invariant-loop decreases-loop) where
           ∙ ap₂ (cond bit) crossed-held straight-held
           ∙ sym (one_through wings row-after (i here) (inside here).0 row_before)
 
-loop-again : tie.Need-loop-preserved invariant-loop decreases-loop
-loop-again c =
+loop-i-preserved : tie.Need-loop-i-preserved invariant-loop decreases-loop
+loop-i-preserved c =
     let t = here c in
-    let own-fits = (start t).fits.own in
-    let other_fits = (start t).fits.other in
-    let known = t.before.loop.inv in
-    let room : i t + half t < length t.before.loop.out = rw known.1 (omega (arith, inside t)) in (
+    let own-fits = (start t).ranges.own in
+    let other_fits = (start t).ranges.other in
+    let known = t.loop-i.invariant in
+    let room : i t + half t < length t.loop-i.out = rw known.1 (omega (arith, inside t)) in (
       omega (arith, inside t),
       simp length-set known.1,
       λ target branch-metric wings.
           let w = simp plain at wings in
           let so_far = known.2 target branch-metric wings in
-          let P : ℕ → ℤ → Type 0 = λ s z. held z ≡ retreat target branch-metric (row (start t).args.t6) s in
+          let P : ℕ → ℤ → Type 0 = λ s z. held z ≡ retreat target branch-metric (row (start t).args.m) s in
           record {
-            near = near_more P t.before.loop.out (i t) _ _ (half t) (inside t).0 room so_far.near (near-goes c target branch-metric w);
-            far = far_more P t.before.loop.out (i t) _ _ (half t) (inside t).0 room so_far.far (far-goes c target branch-metric w);
+            near = near_more P t.loop-i.out (i t) _ _ (half t) (inside t).0 room so_far.near (near-goes c target branch-metric w);
+            far = far_more P t.loop-i.out (i t) _ _ (half t) (inside t).0 room so_far.far (far-goes c target branch-metric w);
             zero_is = zero_held c ∙ ap₂ larger so_far.zero_is (zero-goes c target branch-metric w) ∙ sym (over_more (i t) _);
             one_is = one-held c ∙ ap₂ larger so_far.one_is (one-goes c target branch-metric w) ∙ sym (over_more (i t) _);
           },
@@ -392,47 +392,47 @@ loop-again c =
 returns : tie.Need-returns invariant-loop decreases-loop
 returns c =
     let begun = c.before.before in
-    let known = c.before.loop.invariant in
+    let known = c.loop-i.invariant in
     let own-fits = begun.ranges.own in
     let other_fits = begun.ranges.other in
-    let end : c.before.loop.i ≡ begun.args.half = omega (arith, c.loop-test.false) in
+    let end : c.loop-i.i ≡ begun.args.half = omega (arith, c.loop-i-test.false) in
     λ target branch-metric wings.
     let so_far = known.2 target branch-metric (simp plain wings) in
     record {
-      metrics_are = both_halves (λ s. row c.before.loop.out s ≡ retreat target branch-metric (row begun.args.t6) s)
+      metrics_are = both_halves (λ s. row c.loop-i.out s ≡ retreat target branch-metric (row begun.args.m) s)
           (λ s l. so_far.near s (omega arith)) (λ s l. so_far.far s (omega arith));
       zero_is = rw end at so_far.zero_is ∙ sym (over_halves _ begun.args.half);
       one_is = rw end at so_far.one_is ∙ sym (over_halves _ begun.args.half);
     }
 
-pub backwards-spec : {M : Type 1} → statement M
-backwards-spec =
+pub backwards_spec : {M : Type 1} → statement M
+backwards_spec =
     tie.close
     (tie.spec
     invariant-loop
     decreases-loop
-    loop-holds
-    gain-at-requires
-    mul-p
-    mul-p-2
-    array-copy-out-p
-    mul-q
-    add-q
-    mul-q-2
-    array-copy-out-q
+    loop-i-init
+    gain_at-h-requires
+    overflow_mul-p
+    offset_bounds-m-i
+    bounds-m-i
+    overflow_mul-q
+    overflow_add-q
+    offset_bounds-m-i-in-loop-i
+    bounds-m-i-in-loop-i
     either-requires
-    mul-out
-    array-set-from-out
-    either-requires-2
-    add-out
-    mul-out-2
-    array-set-from-out-2
-    through-at-requires
-    sub-through-at
-    through-at-requires-2
-    raised-requires
-    raised-requires-2
-    add-i
-    loop-less
-    loop-again
+    offset_bounds-out-i
+    bounds-out-i
+    either-requires-in-loop-i
+    overflow_add-out
+    offset_bounds-out-i-in-loop-i
+    bounds-out-i-in-loop-i
+    through_at-straight-requires
+    overflow_sub-h
+    through_at-crossed-requires
+    raised-best0-requires
+    raised-best1-requires
+    overflow_add-i
+    loop-i-smaller
+    loop-i-preserved
     returns)

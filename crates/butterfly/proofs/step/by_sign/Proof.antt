@@ -5,17 +5,17 @@ use Rattle.integers.specs.laws.Linear.{plain}
 use Rattle.butterfly.proofs.step.by_sign.Statement.{statement}
 use Rattle.butterfly.proofs.step.by_sign.Tie as tie
 
-returns : tie.Need-returns
-returns c =
-    let sign_fits = c.before.ranges.sign in
-    let test = simp plain at c.if1.true in
-    rw test (to_z-of_z c.before.ranges.minus)
+returns-then-sign-lt0 : tie.Need-returns-then-sign-lt0
+returns-then-sign-lt0 c =
+    let sign_fits = c.ranges.sign in
+    let test = simp plain at c.if-sign-lt0.true in
+    rw test (to_z-of_z c.ranges.minus)
 
-returns-2 : tie.Need-returns-2
-returns-2 c =
-    let sign_fits = c.before.ranges.sign in
-    let test = simp plain at c.if1.false in
-    rw test (to_z-of_z c.before.ranges.plus)
+returns-else-sign-lt0 : tie.Need-returns-else-sign-lt0
+returns-else-sign-lt0 c =
+    let sign_fits = c.ranges.sign in
+    let test = simp plain at c.if-sign-lt0.false in
+    rw test (to_z-of_z c.ranges.plus)
 
-pub by-sign-spec : {M : Type 1} → statement M
-by-sign-spec = tie.close (tie.spec returns returns-2)
+pub by_sign_spec : {M : Type 1} → statement M
+by_sign_spec = tie.close (tie.spec returns-then-sign-lt0 returns-else-sign-lt0)

@@ -32,8 +32,8 @@ plus-requires c κs =
     let h_fits = c.ranges.h in
     simp plain (c.requires.0, (c.requires.1.1.0, λ p. (c.requires.1.1.1 p).0))
 
-sub-plus : tie.Need-overflow-sub-plus
-sub-plus c = let start = c.before in rw (to_z-of_z start.ranges.h, zero_minus start.args.h) (against-fits start)
+overflow_sub-h : tie.Need-overflow_sub-h
+overflow_sub-h c = let start = c.before in rw (to_z-of_z start.ranges.h, zero_minus start.args.h) (against-fits start)
 
 plus-requires-2 : tie.Need-plus-requires-2
 plus-requires-2 c κs =
@@ -49,11 +49,11 @@ returns c =
     let second = c.before in
     let first = second.before in
     let start = first.before in
-    kept c.larger.result c.larger.type-inv
+    kept c.larger.result c.larger.type_inv
     (c.larger.ensures
     ∙ ap₂ larger
-    (kept first.plus.result first.plus.type-inv (rw (to_z-of_z start.ranges.x, to_z-of_z start.ranges.h) at first.plus.ensures))
-    (kept second.plus2.result second.plus2.type-inv (rw (to_z-of_z start.ranges.y, against-is start) at second.plus2.ensures)))
+    (kept first.plus.result first.plus.type_inv (rw (to_z-of_z start.ranges.x, to_z-of_z start.ranges.h) at first.plus.ensures))
+    (kept second.plus-2.result second.plus-2.type_inv (rw (to_z-of_z start.ranges.y, against-is start) at second.plus-2.ensures)))
 
-pub either-spec : {M : Type 1} → statement M
-either-spec = tie.close (tie.spec plus-requires sub-plus plus-requires-2 larger-requires returns)
+pub either_spec : {M : Type 1} → statement M
+either_spec = tie.close (tie.spec plus-requires overflow_sub-h plus-requires-2 larger-requires returns)

@@ -23,30 +23,30 @@ use Rattle.butterfly.proofs.Sums.{kept, gain_small}
 use Rattle.butterfly.proofs.step.forwards.Statement.{statement}
 use Rattle.butterfly.proofs.step.forwards.Tie as tie
 
-abbrev invariant-loop : tie.invariant-loop
+abbrev invariant-loop : tie.invariant-loop-i
 invariant-loop plain half signs own other m out₀ i₀ out i =
     (i ≤ half)
     × (length out ≡ 16)
     × ((target : ℕ → ℕ → ℕ) (branch-metric : ℕ → ℕ → ℤ) → Wings target branch-metric half signs (to_z w32 own) (to_z w32 other)
     → (s : ℕ) → s < 2 * i → row out s ≡ advance target branch-metric (half + half) (row m) s)
 
-abbrev decreases-loop : tie.decreases-loop
+abbrev decreases-loop : tie.decreases-loop-i
 decreases-loop plain half signs own other m out₀ i₀ out i = half - i
 
 -- ---- a turn of the loop
 
-module _ (c : tie.In-loop invariant-loop decreases-loop) where
+module _ (c : tie.In-loop-i invariant-loop decreases-loop) where
   abbrev start : tie.Start invariant-loop decreases-loop
   start = c.before.before
 
   abbrev i : ℕ
-  i = c.before.loop.i
+  i = c.loop-i.i
 
   abbrev half : ℕ
   half = start.args.half
 
   inside : (i < half) × (half ≤ 8)
-  inside = (c.loop-test.true, start.pre.0.few)
+  inside = (c.loop-i-test.true, start.requires.0.few)
 
   abbrev sign : ℕ → ℤ
   sign k = get_or start.args.signs.now k (pos 0)
@@ -55,23 +55,23 @@ module _ (c : tie.In-loop invariant-loop decreases-loop) where
   wing-gain = gain_at start.args.signs.now start.args.own start.args.other i
 
   wing-gain-small : Within 10237 wing-gain
-  wing-gain-small = gain_small (sign i) (sign (8 + i)) start.pre.0.own_small start.pre.0.other_small
+  wing-gain-small = gain_small (sign i) (sign (8 + i)) start.requires.0.own_small start.requires.0.other_small
 
   abbrev metric : ℕ → ℤ
-  metric s = get_or start.args.t6 s (pos 0)
+  metric s = get_or start.args.m s (pos 0)
 
   module _ (s : ℕ) (l : s < half + half) where
     metric-small : Small 50311168 (held (metric s))
-    metric-small = start.pre.1.0.small s l
+    metric-small = start.requires.1.0.small s l
 
     metric-there : start.args.plain ≡ true → held (metric s) ≡ some (metric s)
-    metric-there p = found_some (metric s) ((start.pre.1.1 p).there s l)
+    metric-there p = found_some (metric s) ((start.requires.1.1 p).there s l)
 
-loop-holds : tie.Need-loop-init invariant-loop decreases-loop
-loop-holds c = (omega arith, refl, λ target branch-metric wings s l. absurd (omega arith))
+loop-i-init : tie.Need-loop-i-init invariant-loop decreases-loop
+loop-i-init c = (omega arith, refl, λ target branch-metric wings s l. absurd (omega arith))
 
-gain-at-requires : tie.Need-gain-at-requires invariant-loop decreases-loop
-gain-at-requires c κs =
+gain_at-h-requires : tie.Need-gain_at-h-requires invariant-loop decreases-loop
+gain_at-h-requires c κs =
     let ready = (start c).requires.0 in
     rw (to_z-of_z (start c).ranges.own, to_z-of_z (start c).ranges.other) (
       omega (arith, inside c),
@@ -81,25 +81,25 @@ gain-at-requires c κs =
       ),
     )
 
-mul-p : tie.Need-overflow-mul-p invariant-loop decreases-loop
-mul-p c = omega (arith, inside c.before)
+offset_bounds-m-i : tie.Need-offset_bounds-m-i invariant-loop decreases-loop
+offset_bounds-m-i c = omega (arith, inside c.before)
 
-array-copy-out-p : tie.Need-array-copy-out-p invariant-loop decreases-loop
-array-copy-out-p c = omega (arith, inside c.before)
+bounds-m-i : tie.Need-bounds-m-i invariant-loop decreases-loop
+bounds-m-i c = omega (arith, inside c.before)
 
-add-q : tie.Need-overflow-add-q invariant-loop decreases-loop
-add-q c = omega (arith, inside c.before.before)
+overflow_add-q : tie.Need-overflow_add-q invariant-loop decreases-loop
+overflow_add-q c = omega (arith, inside c.before.before)
 
-mul-q : tie.Need-overflow-mul-q invariant-loop decreases-loop
-mul-q c = omega (arith, inside c.before.before)
+offset_bounds-m-i-in-loop-i : tie.Need-offset_bounds-m-i-in-loop-i invariant-loop decreases-loop
+offset_bounds-m-i-in-loop-i c = omega (arith, inside c.before.before)
 
-array-copy-out-q : tie.Need-array-copy-out-q invariant-loop decreases-loop
-array-copy-out-q c = omega (arith, inside c.before.before)
+bounds-m-i-in-loop-i : tie.Need-bounds-m-i-in-loop-i invariant-loop decreases-loop
+bounds-m-i-in-loop-i c = omega (arith, inside c.before.before)
 
 -- ---- what was read
 
-module _ (c : tie.After-q invariant-loop decreases-loop) where
-  abbrev turn : tie.In-loop invariant-loop decreases-loop
+module _ (c : tie.After-q-1 invariant-loop decreases-loop) where
+  abbrev turn : tie.In-loop-i invariant-loop decreases-loop
   turn = c.before.before.before
 
   abbrev at-near : ℕ
@@ -108,16 +108,16 @@ module _ (c : tie.After-q invariant-loop decreases-loop) where
   abbrev at-far : ℕ
   at-far = i turn + half turn
 
-  gain-is : to_z w32 (of_z w32 c.before.before.gain-at.result) ≡ wing-gain turn
+  gain-is : to_z w32 (of_z w32 c.gain_at-h.result) ≡ wing-gain turn
   gain-is =
-      let called = c.before.before.gain-at in
-      to_z-of_z (fits_of called.type-inv) ∙ rw (to_z-of_z (start turn).fits.own, to_z-of_z (start turn).fits.other) at called.ensures
+      let called = c.gain_at-h in
+      to_z-of_z {w = w32} (fits_of called.type_inv) ∙ rw (to_z-of_z (start turn).ranges.own, to_z-of_z (start turn).ranges.other) at called.ensures
 
   near-is : to_z w32 (of_z w32 (metric turn at-near)) ≡ metric turn at-near
-  near-is = to_z-of_z (fits_of c.before.p.given)
+  near-is = to_z-of_z {w = w32} (fits_of c.p-1.given)
 
   far-is : to_z w32 (of_z w32 (metric turn at-far)) ≡ metric turn at-far
-  far-is = to_z-of_z (fits_of c.q.given)
+  far-is = to_z-of_z {w = w32} (fits_of c.q-1.given)
 
   near-below : at-near < half turn + half turn
   near-below = omega (arith, inside turn)
@@ -135,17 +135,17 @@ either-requires c κs =
       ),
     )
 
-mul-out : tie.Need-overflow-mul-out invariant-loop decreases-loop
-mul-out c = omega (arith, inside (turn c.before))
+overflow_mul-out : tie.Need-overflow_mul-out invariant-loop decreases-loop
+overflow_mul-out c = omega (arith, inside (turn c.before))
 
-mul-out-2 : tie.Need-overflow-mul-out-2 invariant-loop decreases-loop
-mul-out-2 c = omega (arith, inside (turn c.before))
+offset_bounds-out-i : tie.Need-offset_bounds-out-i invariant-loop decreases-loop
+offset_bounds-out-i c = omega (arith, inside (turn c.before))
 
-array-set-from-out : tie.Need-array-set-from-out invariant-loop decreases-loop
-array-set-from-out c = omega (arith, inside (turn c.before))
+bounds-out-i : tie.Need-bounds-out-i invariant-loop decreases-loop
+bounds-out-i c = omega (arith, inside (turn c.before))
 
-either-requires-2 : tie.Need-either-requires-2 invariant-loop decreases-loop
-either-requires-2 c κs =
+either-requires-in-loop-i : tie.Need-either-requires-in-loop-i invariant-loop decreases-loop
+either-requires-in-loop-i c κs =
     let read = c.before in
     rw (near-is read, far-is read, gain-is read) (
       metric-small (turn read) _ (far-below read),
@@ -155,31 +155,31 @@ either-requires-2 c κs =
       ),
     )
 
-mul-out-3 : tie.Need-overflow-mul-out-3 invariant-loop decreases-loop
-mul-out-3 c = omega (arith, inside (turn c.before.before))
+overflow_mul-out-in-loop-i : tie.Need-overflow_mul-out-in-loop-i invariant-loop decreases-loop
+overflow_mul-out-in-loop-i c = omega (arith, inside (turn c.before.before))
 
-add-out : tie.Need-overflow-add-out invariant-loop decreases-loop
-add-out c = omega (arith, inside (turn c.before.before))
+overflow_add-out : tie.Need-overflow_add-out invariant-loop decreases-loop
+overflow_add-out c = omega (arith, inside (turn c.before.before))
 
-mul-out-4 : tie.Need-overflow-mul-out-4 invariant-loop decreases-loop
-mul-out-4 c = omega (arith, inside (turn c.before.before))
+offset_bounds-out-i-in-loop-i : tie.Need-offset_bounds-out-i-in-loop-i invariant-loop decreases-loop
+offset_bounds-out-i-in-loop-i c = omega (arith, inside (turn c.before.before))
 
-array-set-from-out-2 : tie.Need-array-set-from-out-2 invariant-loop decreases-loop
-array-set-from-out-2 c = omega (arith, inside (turn c.before.before))
+bounds-out-i-in-loop-i : tie.Need-bounds-out-i-in-loop-i invariant-loop decreases-loop
+bounds-out-i-in-loop-i c = omega (arith, inside (turn c.before.before))
 
-add-i : tie.Need-overflow-add-i invariant-loop decreases-loop
-add-i c = omega (arith, inside (turn c.before.before))
+overflow_add-i : tie.Need-overflow_add-i invariant-loop decreases-loop
+overflow_add-i c = omega (arith, inside (turn c.before.before))
 
-loop-less : tie.Need-loop-smaller invariant-loop decreases-loop
-loop-less c = search rules
+loop-i-smaller : tie.Need-loop-i-smaller invariant-loop decreases-loop
+loop-i-smaller c = search rules
 
 -- ---- what is written of a wing
 
-module _ (c : tie.After-either2 invariant-loop decreases-loop) where
-  abbrev read : tie.After-q invariant-loop decreases-loop
+module _ (c : tie.After-either-in-loop-i invariant-loop decreases-loop) where
+  abbrev read : tie.After-q-1 invariant-loop decreases-loop
   read = c.before.before
 
-  abbrev here : tie.In-loop invariant-loop decreases-loop
+  abbrev here : tie.In-loop-i invariant-loop decreases-loop
   here = turn read
 
   module _
@@ -187,32 +187,32 @@ module _ (c : tie.After-either2 invariant-loop decreases-loop) where
       (wings : Wings target branch-metric (half here) (start here).args.signs.now (start here).args.own (start here).args.other)
     where
       abbrev after : ℕ → Option ℤ
-      after = advance target branch-metric (half here + half here) (row (start here).args.t6)
+      after = advance target branch-metric (half here + half here) (row (start here).args.m)
 
-      even_is : held (to_z w32 (of_z w32 c.before.either.result)) ≡ after (2 * i here)
+      even_is : held (to_z w32 (of_z w32 c.either.result)) ≡ after (2 * i here)
       even_is =
-          kept c.before.either.result c.before.either.type-inv
-          (rw (near-is read, far-is read, gain-is read) at c.before.either.ensures
-          ∙ sym (even_after wings (row (start here).args.t6) (i here) (inside here).0))
+          kept c.either.result c.either.type_inv
+          (rw (near-is read, far-is read, gain-is read) at c.either.ensures
+          ∙ sym (even_after wings (row (start here).args.m) (i here) (inside here).0))
 
-      odd_is : held (to_z w32 (of_z w32 c.either2.result)) ≡ after (2 * i here + 1)
+      odd_is : held (to_z w32 (of_z w32 c.either-in-loop-i.result)) ≡ after (2 * i here + 1)
       odd_is =
-          kept c.either2.result c.either2.type-inv
-          (rw (near-is read, far-is read, gain-is read) at c.either2.ensures
-          ∙ sym (odd_after wings (row (start here).args.t6) (i here) (inside here).0))
+          kept c.either-in-loop-i.result c.either-in-loop-i.type_inv
+          (rw (near-is read, far-is read, gain-is read) at c.either-in-loop-i.ensures
+          ∙ sym (odd_after wings (row (start here).args.m) (i here) (inside here).0))
 
-loop-again : tie.Need-loop-preserved invariant-loop decreases-loop
-loop-again c =
+loop-i-preserved : tie.Need-loop-i-preserved invariant-loop decreases-loop
+loop-i-preserved c =
     let t = here c in
-    let own-fits = (start t).fits.own in
-    let other_fits = (start t).fits.other in
-    let so_far = t.before.loop.inv in
-    let room : 2 * i t + 1 < length t.before.loop.out = rw so_far.1 (omega (arith, inside t)) in (
+    let own-fits = (start t).ranges.own in
+    let other_fits = (start t).ranges.other in
+    let so_far = t.loop-i.invariant in
+    let room : 2 * i t + 1 < length t.loop-i.out = rw so_far.1 (omega (arith, inside t)) in (
       omega (arith, inside t),
       simp length-set so_far.1,
       λ target branch-metric wings.
-          side_by_side (λ s z. held z ≡ advance target branch-metric (half t + half t) (row (start t).args.t6) s)
-          t.before.loop.out (i t) _ _ room (so_far.2 target branch-metric wings)
+          side_by_side (λ s z. held z ≡ advance target branch-metric (half t + half t) (row (start t).args.m) s)
+          t.loop-i.out (i t) _ _ room (so_far.2 target branch-metric wings)
           (even_is c target branch-metric (simp plain at wings)) (odd_is c target branch-metric (simp plain at wings)),
     )
 
@@ -221,31 +221,31 @@ returns c =
     let begun = c.before.before in
     let own-fits = begun.ranges.own in
     let other_fits = begun.ranges.other in
-    λ target branch-metric wings s l. c.before.loop.invariant.2 target branch-metric (simp plain wings) s (omega (arith, c.loop-test.false))
+    λ target branch-metric wings s l. c.loop-i.invariant.2 target branch-metric (simp plain wings) s (omega (arith, c.loop-i-test.false))
 
-pub forwards-spec : {M : Type 1} → statement M
-forwards-spec =
+pub forwards_spec : {M : Type 1} → statement M
+forwards_spec =
     tie.close
     (tie.spec
     invariant-loop
     decreases-loop
-    loop-holds
-    gain-at-requires
-    mul-p
-    array-copy-out-p
-    add-q
-    mul-q
-    array-copy-out-q
+    loop-i-init
+    gain_at-h-requires
+    offset_bounds-m-i
+    bounds-m-i
+    overflow_add-q
+    offset_bounds-m-i-in-loop-i
+    bounds-m-i-in-loop-i
     either-requires
-    mul-out
-    mul-out-2
-    array-set-from-out
-    either-requires-2
-    mul-out-3
-    add-out
-    mul-out-4
-    array-set-from-out-2
-    add-i
-    loop-less
-    loop-again
+    overflow_mul-out
+    offset_bounds-out-i
+    bounds-out-i
+    either-requires-in-loop-i
+    overflow_mul-out-in-loop-i
+    overflow_add-out
+    offset_bounds-out-i-in-loop-i
+    bounds-out-i-in-loop-i
+    overflow_add-i
+    loop-i-smaller
+    loop-i-preserved
     returns)

@@ -13,14 +13,14 @@ use Rattle.butterfly.proofs.Sums.{small_fits, sign_times, product_fits, gain_sma
 use Rattle.butterfly.proofs.step.gain.Statement.{statement}
 use Rattle.butterfly.proofs.step.gain.Tie as tie
 
-mul-result : tie.Need-overflow-mul-result
-mul-result c =
+overflow_mul-result : tie.Need-overflow_mul-result
+overflow_mul-result c =
     let input-fits = c.ranges.input in
     let own-fits = c.ranges.own in
     simp plain (product_fits _ _ (omega arith) c.requires.0 c.requires.1.1.0)
 
-mul-result-2 : tie.Need-overflow-mul-result-2
-mul-result-2 c =
+overflow_mul-result-2 : tie.Need-overflow_mul-result-2
+overflow_mul-result-2 c =
     let parity-fits = c.ranges.parity in
     let other_fits = c.ranges.other in
     simp plain (product_fits _ _ (omega arith) c.requires.1.0 c.requires.1.1.1)
@@ -37,15 +37,15 @@ sum_is c =
     let parity-fits = c.ranges.parity in
     let own-fits = c.ranges.own in
     let other_fits = c.ranges.other in
-    rw (to_z-of_z (mul-result c), to_z-of_z (mul-result-2 c))
+    rw (to_z-of_z (overflow_mul-result c), to_z-of_z (overflow_mul-result-2 c))
     (simp plain (ap₂ (λ p q. p +ℤ q) (sign_times _ _ c.requires.0) (sign_times _ _ c.requires.1.0)))
 
-add-result : tie.Need-overflow-add-result
-add-result c =
+overflow_add-result : tie.Need-overflow_add-result
+overflow_add-result c =
     rw (sum_is c) (small_fits _ (within_more (omega arith) (gain_small c.args.input c.args.parity c.requires.1.1.0 c.requires.1.1.1)))
 
 returns : tie.Need-returns
-returns c = to_z-of_z (add-result c) ∙ sum_is c
+returns c = to_z-of_z (overflow_add-result c) ∙ sum_is c
 
-pub gain-spec : {M : Type 1} → statement M
-gain-spec = tie.close (tie.spec mul-result mul-result-2 add-result returns)
+pub gain_spec : {M : Type 1} → statement M
+gain_spec = tie.close (tie.spec overflow_mul-result overflow_mul-result-2 overflow_add-result returns)

@@ -10,20 +10,20 @@ use Rattle.integers.specs.laws.Linear.{plain, fits_of}
 use Rattle.butterfly.proofs.step.gain_at.Statement.{statement}
 use Rattle.butterfly.proofs.step.gain_at.Tie as tie
 
-mul-gain : tie.Need-overflow-mul-gain
-mul-gain c = search rules
+offset_bounds-signs-i : tie.Need-offset_bounds-signs-i
+offset_bounds-signs-i c = search rules
 
-element-copy-out-gain : tie.Need-element-copy-out-gain
-element-copy-out-gain c = search rules
+bounds-signs-i : tie.Need-bounds-signs-i
+bounds-signs-i c = search rules
 
-add-gain : tie.Need-overflow-add-gain
-add-gain c = search rules
+overflow_add-i : tie.Need-overflow_add-i
+overflow_add-i c = search rules
 
-mul-gain-2 : tie.Need-overflow-mul-gain-2
-mul-gain-2 c = search rules
+offset_bounds-signs-i-2 : tie.Need-offset_bounds-signs-i-2
+offset_bounds-signs-i-2 c = search rules
 
-element-copy-out-gain-2 : tie.Need-element-copy-out-gain-2
-element-copy-out-gain-2 c = search rules
+bounds-signs-i-2 : tie.Need-bounds-signs-i-2
+bounds-signs-i-2 c = search rules
 
 gain-requires : tie.Need-gain-requires
 gain-requires c κs = search rules
@@ -34,19 +34,19 @@ returns c =
     let sign : ℕ → ℤ = λ k. get_or start.args.signs.now k (pos 0) in
     let own-fits = start.ranges.own in
     let other_fits = start.ranges.other in
-    let fits = c.gain.type-inv in
-    let sign_fits : SFits w32 (sign start.args.i) = fits_of c.before.before.gain-arg.given in
-    let parity-fits : SFits w32 (sign (8 + start.args.i)) = fits_of c.before.gain-arg2.given in
+    let fits = c.gain.type_inv in
+    let sign_fits : SFits w32 (sign start.args.i) = fits_of c.gain-arg-1.given in
+    let parity-fits : SFits w32 (sign (8 + start.args.i)) = fits_of c.gain-arg-2-1.given in
     simp plain (simp plain at c.gain.ensures)
 
-pub gain-at-spec : {M : Type 1} → statement M
-gain-at-spec =
+pub gain_at_spec : {M : Type 1} → statement M
+gain_at_spec =
     tie.close
     (tie.spec
-    mul-gain
-    element-copy-out-gain
-    add-gain
-    mul-gain-2
-    element-copy-out-gain-2
+    offset_bounds-signs-i
+    bounds-signs-i
+    overflow_add-i
+    offset_bounds-signs-i-2
+    bounds-signs-i-2
     gain-requires
     returns)

@@ -27,49 +27,49 @@ module _ (c : tie.Start) (before : held c.args.f ≡ some c.args.f) (after : hel
   sum_is : held (c.args.f +ℤ c.args.m) ≡ plus (held c.args.f) (held c.args.m)
   sum_is = sum.1 ∙ ap (plus (held c.args.f)) (rw after)
 
-add-result : tie.Need-overflow-add-result
-add-result c =
+overflow_add-result : tie.Need-overflow_add-result
+overflow_add-result c =
     let start = c.before in
     let f-fits = start.ranges.f in
     let m-fits = start.ranges.m in
-    let (before, after) = start.requires.1.1 c.if1.true in
+    let (before, after) = start.requires.1.1 c.if-plain.true in
     simp plain (small_fits _ (sum_fits start before after))
 
-returns : tie.Need-returns
-returns c =
+returns-then-plain : tie.Need-returns-then-plain
+returns-then-plain c =
     let start = c.before in
     let f-fits = start.ranges.f in
     let m-fits = start.ranges.m in
-    let (before, after) = start.requires.1.1 c.if1.true in
+    let (before, after) = start.requires.1.1 c.if-plain.true in
     let r-fits = small_fits _ (sum_fits start before after) in
     simp plain (sum_is start before after)
 
-returns-2 : tie.Need-returns-2
+returns-then-f-eq-NOTHING : tie.Need-returns-then-f-eq-NOTHING
 unfolding plus
-returns-2 c = rw (held_none c.before.before.args.f c.if2.true)
+returns-then-f-eq-NOTHING c = rw (held_none c.args.f c.if-f-eq-NOTHING.true)
 
-add-result-2 : tie.Need-overflow-add-result-2
-add-result-2 c =
+overflow_add-result-else-m-eq-NOTHING : tie.Need-overflow_add-result-else-m-eq-NOTHING
+overflow_add-result-else-m-eq-NOTHING c =
     let start = c.before.before.before in
     let f-fits = start.ranges.f in
     let m-fits = start.ranges.m in
-    simp plain (small_fits _ (sum_fits start (held_some _ c.before.if2.false) (held_some _ c.if3.false)))
+    simp plain (small_fits _ (sum_fits start (held_some _ c.if-f-eq-NOTHING.false) (held_some _ c.if-m-eq-NOTHING.false)))
 
-returns-3 : tie.Need-returns-3
+returns-then-m-eq-NOTHING : tie.Need-returns-then-m-eq-NOTHING
 unfolding plus
-returns-3 c =
+returns-then-m-eq-NOTHING c =
     let start = c.before.before.before in
-    rw (held_none start.args.m c.if3.true) (plus_comm none (held start.args.f))
+    rw (held_none start.args.m c.if-m-eq-NOTHING.true) (plus_comm none (held start.args.f))
 
-returns-4 : tie.Need-returns-4
-returns-4 c =
+returns-else-m-eq-NOTHING : tie.Need-returns-else-m-eq-NOTHING
+returns-else-m-eq-NOTHING c =
     let start = c.before.before.before in
     let f-fits = start.ranges.f in
     let m-fits = start.ranges.m in
-    let before = held_some _ c.before.if2.false in
-    let after = held_some _ c.if3.false in
+    let before = held_some _ c.if-f-eq-NOTHING.false in
+    let after = held_some _ c.if-m-eq-NOTHING.false in
     let r-fits = small_fits _ (sum_fits start before after) in
     simp plain (sum_is start before after)
 
-pub meet-spec : {M : Type 1} → statement M
-meet-spec = tie.close (tie.spec add-result returns returns-2 add-result-2 returns-3 returns-4)
+pub meet_spec : {M : Type 1} → statement M
+meet_spec = tie.close (tie.spec overflow_add-result returns-then-plain returns-then-f-eq-NOTHING overflow_add-result-else-m-eq-NOTHING returns-then-m-eq-NOTHING returns-else-m-eq-NOTHING)

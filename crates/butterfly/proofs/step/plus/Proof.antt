@@ -22,41 +22,41 @@ module _ (c : tie.Start) (there : held c.args.m ≡ some c.args.m) where
   sum_fits : Within 200000000 (c.args.m +ℤ c.args.g)
   sum_fits = within_more (omega arith) sum.0
 
-taken : (c : tie.Then1) → held c.before.args.m ≡ some c.before.args.m
-taken c = c.before.requires.1.1 c.if1.true
+taken : (c : tie.Then-plain) → held c.args.m ≡ some c.args.m
+taken c = c.requires.1.1 c.if-plain.true
 
-tested : (c : tie.Else2) → held c.before.before.args.m ≡ some c.before.before.args.m
-tested c = held_some _ c.if2.false
+tested : (c : tie.Else-m-eq-NOTHING) → held c.args.m ≡ some c.args.m
+tested c = held_some _ c.if-m-eq-NOTHING.false
 
-add-result : tie.Need-overflow-add-result
-add-result c =
-    let m-fits = c.before.ranges.m in
-    let g-fits = c.before.ranges.g in
+overflow_add-result : tie.Need-overflow_add-result
+overflow_add-result c =
+    let m-fits = c.ranges.m in
+    let g-fits = c.ranges.g in
     simp plain (small_fits _ (sum_fits c.before (taken c)))
 
-returns : tie.Need-returns
-returns c =
-    let m-fits = c.before.ranges.m in
-    let g-fits = c.before.ranges.g in
+returns-then-plain : tie.Need-returns-then-plain
+returns-then-plain c =
+    let m-fits = c.ranges.m in
+    let g-fits = c.ranges.g in
     let r-fits = small_fits _ (sum_fits c.before (taken c)) in
     simp plain (sum c.before (taken c)).1
 
-add-result-2 : tie.Need-overflow-add-result-2
-add-result-2 c =
-    let m-fits = c.before.before.ranges.m in
-    let g-fits = c.before.before.ranges.g in
+overflow_add-result-else-m-eq-NOTHING : tie.Need-overflow_add-result-else-m-eq-NOTHING
+overflow_add-result-else-m-eq-NOTHING c =
+    let m-fits = c.ranges.m in
+    let g-fits = c.ranges.g in
     simp plain (small_fits _ (sum_fits c.before.before (tested c)))
 
-returns-2 : tie.Need-returns-2
+returns-then-m-eq-NOTHING : tie.Need-returns-then-m-eq-NOTHING
 unfolding plus
-returns-2 c = rw (held_none c.before.before.args.m c.if2.true)
+returns-then-m-eq-NOTHING c = rw (held_none c.args.m c.if-m-eq-NOTHING.true)
 
-returns-3 : tie.Need-returns-3
-returns-3 c =
-    let m-fits = c.before.before.ranges.m in
-    let g-fits = c.before.before.ranges.g in
+returns-else-m-eq-NOTHING : tie.Need-returns-else-m-eq-NOTHING
+returns-else-m-eq-NOTHING c =
+    let m-fits = c.ranges.m in
+    let g-fits = c.ranges.g in
     let r-fits = small_fits _ (sum_fits c.before.before (tested c)) in
     simp plain (sum c.before.before (tested c)).1
 
-pub plus-spec : {M : Type 1} → statement M
-plus-spec = tie.close (tie.spec add-result returns add-result-2 returns-2 returns-3)
+pub plus_spec : {M : Type 1} → statement M
+plus_spec = tie.close (tie.spec overflow_add-result returns-then-plain overflow_add-result-else-m-eq-NOTHING returns-then-m-eq-NOTHING returns-else-m-eq-NOTHING)

@@ -14,34 +14,34 @@ use Rattle.butterfly.proofs.Sums.{kept}
 use Rattle.butterfly.proofs.step.raised.Statement.{statement}
 use Rattle.butterfly.proofs.step.raised.Tie as tie
 
-mul-by-sign : tie.Need-overflow-mul-by-sign
-mul-by-sign c = search rules
+offset_bounds-signs-i : tie.Need-offset_bounds-signs-i
+offset_bounds-signs-i c = search rules
 
-element-copy-out-by-sign : tie.Need-element-copy-out-by-sign
-element-copy-out-by-sign c = search rules
+bounds-signs-i : tie.Need-bounds-signs-i
+bounds-signs-i c = search rules
 
-by-sign-requires : tie.Need-by-sign-requires
-by-sign-requires c κs = search rules
+by_sign-requires : tie.Need-by_sign-requires
+by_sign-requires c κs = search rules
 
 larger-requires : tie.Need-larger-requires
 larger-requires c κs = search rules
 
 picked :
-    (c : tie.After-by-sign) → let args = c.before.before.args in
-    to_z w32 (of_z w32 c.by_sign_lem.result) ≡ cond (straight_at args.signs.now args.i) args.minus args.plus
+    (c : tie.After-by_sign) → let args = c.args in
+    to_z w32 (of_z w32 c.by_sign.result) ≡ cond (straight_at args.signs.now args.i) args.minus args.plus
 picked c =
     let start = c.before.before in
     let sign : ℤ = get_or start.args.signs.now start.args.i (pos 0) in
-    let sign-is : to_z w32 (of_z w32 sign) ≡ sign = to_z-of_z (fits_of c.before.by-sign-arg.given) in
-    to_z-of_z (fits_of c.by_sign_lem.type-inv)
-    ∙ rw (sign-is, to_z-of_z start.ranges.minus, to_z-of_z start.ranges.plus) at c.by_sign_lem.ensures
+    let sign-is : to_z w32 (of_z w32 sign) ≡ sign = to_z-of_z {w = w32} (fits_of c.by_sign-arg-1.given) in
+    to_z-of_z {w = w32} (fits_of c.by_sign.type_inv)
+    ∙ rw (sign-is, to_z-of_z start.ranges.minus, to_z-of_z start.ranges.plus) at c.by_sign.ensures
 
 returns : tie.Need-returns
 returns c =
     let start = c.before.before.before in
-    kept c.larger.result c.larger.type-inv (rw (to_z-of_z start.ranges.best, picked c.before) at c.larger.ensures)
+    kept c.larger.result c.larger.type_inv (rw (to_z-of_z start.ranges.best, picked c.before) at c.larger.ensures)
 
-pub raised-spec : {M : Type 1} → statement M
-raised-spec =
+pub raised_spec : {M : Type 1} → statement M
+raised_spec =
     tie.close
-    (tie.spec mul-by-sign element-copy-out-by-sign by-sign-requires larger-requires returns)
+    (tie.spec offset_bounds-signs-i bounds-signs-i by_sign-requires larger-requires returns)

@@ -25,7 +25,7 @@ module _ (r h : ℤ) {X : Option ℤ} (ok : mag r < 2 ^ hbits w32) (is : held r 
   onward-small x-small h-small = same_small (kept r ok is) (sum_small {a = 50311168} {b = 10237} x-small h-small)
 
   onward-there : {x : ℤ} → X ≡ some x → held (to_z w32 (of_z w32 r)) ≡ some (to_z w32 (of_z w32 r))
-  onward-there there = kept r ok (sum_stands r h is there) ∙ ap some (sym (to_z-of_z (fits_of ok)))
+  onward-there there = kept r ok (sum_stands r h is there) ∙ ap some (sym (to_z-of_z {w = w32} (fits_of ok)))
 
 -- ---- the first path
 
@@ -35,17 +35,17 @@ plus-requires c κs =
     let h_fits = c.ranges.h in
     simp plain (c.requires.1.0, (c.requires.1.1.1.1.0, λ p. (c.requires.1.1.1.1.1 p).1))
 
-first_is : (c : tie.After-plus) → let args = c.before.args in held c.plus.result ≡ plus (held args.x) (some args.h)
-first_is c = rw (to_z-of_z c.before.ranges.x, to_z-of_z c.before.ranges.h) at c.plus.ensures
+first_is : (c : tie.After-plus) → let args = c.args in held c.plus.result ≡ plus (held args.x) (some args.h)
+first_is c = rw (to_z-of_z c.ranges.x, to_z-of_z c.ranges.h) at c.plus.ensures
 
 meet-requires : tie.Need-meet-requires
 meet-requires c κs =
-    let (f-small, (x-small, (e-small, (y-small, (h-small, there))))) = c.before.requires in
-    rw (to_z-of_z c.before.ranges.f) (
+    let (f-small, (x-small, (e-small, (y-small, (h-small, there))))) = c.requires in
+    rw (to_z-of_z c.ranges.f) (
       f-small,
       (
-        onward-small c.plus.result _ c.plus.type-inv (first_is c) x-small h-small,
-        λ p. ((there p).0, onward-there c.plus.result _ c.plus.type-inv (first_is c) (there p).1),
+        onward-small c.plus.result _ c.plus.type_inv (first_is c) x-small h-small,
+        λ p. ((there p).0, onward-there c.plus.result _ c.plus.type_inv (first_is c) (there p).1),
       ),
     )
 
@@ -58,8 +58,8 @@ plus-requires-2 c κs =
     let h_fits = start.ranges.h in
     simp plain (start.requires.1.1.1.0, (start.requires.1.1.1.1.0, λ p. (start.requires.1.1.1.1.1 p).3))
 
-second_is : (c : tie.After-plus2) → let args = c.before.before.before.args in held c.plus2.result ≡ plus (held args.y) (some args.h)
-second_is c = let start = c.before.before.before in rw (to_z-of_z start.ranges.y, to_z-of_z start.ranges.h) at c.plus2.ensures
+second_is : (c : tie.After-plus-2) → let args = c.args in held c.plus-2.result ≡ plus (held args.y) (some args.h)
+second_is c = let start = c.before.before.before in rw (to_z-of_z start.ranges.y, to_z-of_z start.ranges.h) at c.plus-2.ensures
 
 meet-requires-2 : tie.Need-meet-requires-2
 meet-requires-2 c κs =
@@ -68,8 +68,8 @@ meet-requires-2 c κs =
     rw (to_z-of_z start.ranges.e) (
       e-small,
       (
-        onward-small c.plus2.result _ c.plus2.type-inv (second_is c) y-small h-small,
-        λ p. ((there p).2, onward-there c.plus2.result _ c.plus2.type-inv (second_is c) (there p).3),
+        onward-small c.plus-2.result _ c.plus-2.type_inv (second_is c) y-small h-small,
+        λ p. ((there p).2, onward-there c.plus-2.result _ c.plus-2.type_inv (second_is c) (there p).3),
       ),
     )
 
@@ -86,11 +86,11 @@ returns c =
     let added = met.before in
     let start = added.before in
     let first : held met.meet.result ≡ plus (held start.args.f) (plus (held start.args.x) (some start.args.h)) =
-    rw (to_z-of_z start.ranges.f) at met.meet.ensures ∙ ap (plus (held start.args.f)) (kept added.plus.result added.plus.type-inv (first_is added)) in
-    let second : held met2.meet2.result ≡ plus (held start.args.e) (plus (held start.args.y) (some start.args.h)) =
-    rw (to_z-of_z start.ranges.e) at met2.meet2.ensures ∙ ap (plus (held start.args.e)) (kept added2.plus2.result added2.plus2.type-inv (second_is added2)) in
-    kept c.larger.result c.larger.type-inv
-    (c.larger.ensures ∙ ap₂ larger (kept met.meet.result met.meet.type-inv first) (kept met2.meet2.result met2.meet2.type-inv second))
+    rw (to_z-of_z start.ranges.f) at met.meet.ensures ∙ ap (plus (held start.args.f)) (kept added.plus.result added.plus.type_inv (first_is added)) in
+    let second : held met2.meet-2.result ≡ plus (held start.args.e) (plus (held start.args.y) (some start.args.h)) =
+    rw (to_z-of_z start.ranges.e) at met2.meet-2.ensures ∙ ap (plus (held start.args.e)) (kept added2.plus-2.result added2.plus-2.type_inv (second_is added2)) in
+    kept c.larger.result c.larger.type_inv
+    (c.larger.ensures ∙ ap₂ larger (kept met.meet.result met.meet.type_inv first) (kept met2.meet-2.result met2.meet-2.type_inv second))
 
-pub through-spec : {M : Type 1} → statement M
-through-spec = tie.close (tie.spec plus-requires meet-requires plus-requires-2 meet-requires-2 larger-requires returns)
+pub through_spec : {M : Type 1} → statement M
+through_spec = tie.close (tie.spec plus-requires meet-requires plus-requires-2 meet-requires-2 larger-requires returns)

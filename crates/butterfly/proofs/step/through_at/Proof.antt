@@ -18,30 +18,30 @@ use Rattle.butterfly.proofs.Sums.{kept}
 use Rattle.butterfly.proofs.step.through_at.Statement.{statement}
 use Rattle.butterfly.proofs.step.through_at.Tie as tie
 
-add-through : tie.Need-overflow-add-through
-add-through c = search rules
+overflow_add-at : tie.Need-overflow_add-at
+overflow_add-at c = search rules
 
-mul-through : tie.Need-overflow-mul-through
-mul-through c = search rules
+offset_bounds-work-at : tie.Need-offset_bounds-work-at
+offset_bounds-work-at c = search rules
 
-shared-slice-copy-out-through : tie.Need-shared-slice-copy-out-through
-shared-slice-copy-out-through c = search rules
+bounds-work-at : tie.Need-bounds-work-at
+bounds-work-at c = search rules
 
-add-through-2 : tie.Need-overflow-add-through-2
-add-through-2 c = search rules
+overflow_add-i : tie.Need-overflow_add-i
+overflow_add-i c = search rules
 
-add-through-3 : tie.Need-overflow-add-through-3
-add-through-3 c = search rules
+overflow_add-at-2 : tie.Need-overflow_add-at-2
+overflow_add-at-2 c = search rules
 
-mul-through-2 : tie.Need-overflow-mul-through-2
-mul-through-2 c = search rules
+offset_bounds-work-at-2 : tie.Need-offset_bounds-work-at-2
+offset_bounds-work-at-2 c = search rules
 
-shared-slice-copy-out-through-2 : tie.Need-shared-slice-copy-out-through-2
-shared-slice-copy-out-through-2 c = search rules
+bounds-work-at-2 : tie.Need-bounds-work-at-2
+bounds-work-at-2 c = search rules
 
 -- ---- what was read
 
-module _ (c : tie.After-through-arg2) where
+module _ (c : tie.After-through-arg-2-1) where
   abbrev start : tie.Start
   start = c.before.before
 
@@ -55,19 +55,19 @@ module _ (c : tie.After-through-arg2) where
   before s = get_or start.args.work.now (start.args.at + s) (pos 0)
 
   near-is : to_z w32 (of_z w32 (before i)) ≡ before i
-  near-is = to_z-of_z (fits_of c.before.through-arg.given)
+  near-is = to_z-of_z {w = w32} (fits_of c.through-arg-1.given)
 
   far-is : to_z w32 (of_z w32 (before far)) ≡ before far
-  far-is = to_z-of_z (fits_of c.through-arg2.given)
+  far-is = to_z-of_z {w = w32} (fits_of c.through-arg-2-1.given)
 
   x-is : to_z w32 (of_z w32 start.args.x) ≡ start.args.x
-  x-is = to_z-of_z start.fits.x
+  x-is = to_z-of_z start.ranges.x
 
   y-is : to_z w32 (of_z w32 start.args.y) ≡ start.args.y
-  y-is = to_z-of_z start.fits.y
+  y-is = to_z-of_z start.ranges.y
 
   h-is : to_z w32 (of_z w32 start.args.h) ≡ start.args.h
-  h-is = to_z-of_z start.fits.h
+  h-is = to_z-of_z start.ranges.h
 
 through-requires : tie.Need-through-requires
 through-requires c κs =
@@ -100,19 +100,19 @@ through-requires c κs =
 returns : tie.Need-returns
 returns c =
     let read = c.before in
-    kept c.through.result c.through.type-inv
+    kept c.through.result c.through.type_inv
     (rw (near-is read, far-is read, x-is read, y-is read, h-is read) at c.through.ensures)
 
-pub through-at-spec : {M : Type 1} → statement M
-through-at-spec =
+pub through_at_spec : {M : Type 1} → statement M
+through_at_spec =
     tie.close
     (tie.spec
-    add-through
-    mul-through
-    shared-slice-copy-out-through
-    add-through-2
-    add-through-3
-    mul-through-2
-    shared-slice-copy-out-through-2
+    overflow_add-at
+    offset_bounds-work-at
+    bounds-work-at
+    overflow_add-i
+    overflow_add-at-2
+    offset_bounds-work-at-2
+    bounds-work-at-2
     through-requires
     returns)

@@ -38,27 +38,27 @@ Swept kind signs channel apriori from k before m work₀ work =
     Winged t n v kind.half signs → Agree (states_of kind) (row before) (forward t v (boundary a) from)
     → Agree (states_of kind) (row m) (forward t v (boundary a) k) × (Forward t v a from work₀ → Forward t v a k work)
 
-abbrev invariant-loop : tie.invariant-loop
+abbrev invariant-loop : tie.invariant-loop-k
 invariant-loop plain kind signs from to channel apriori work₀ m₀ k₀ work m k =
     (from ≤ k) × (k ≤ to) × (length work ≡ length work₀) × Swept kind signs channel apriori from k m₀ m work₀ work
 
-abbrev decreases-loop : tie.decreases-loop
+abbrev decreases-loop : tie.decreases-loop-k
 decreases-loop plain kind signs from to channel apriori work₀ m₀ k₀ work m k = to - k
 
 -- ---- a turn of the loop
 
-module _ (c : tie.In-loop invariant-loop decreases-loop) where
+module _ (c : tie.In-loop-k invariant-loop decreases-loop) where
   abbrev start : tie.Start invariant-loop decreases-loop
   start = c.before.before
 
   abbrev k : ℕ
-  k = c.before.loop.k
+  k = c.loop-k.k
 
   -- the table that the sweep was called for
   given :
       Ahead start.args.kind start.args.signs.now start.args.channel.now start.args.apriori.now start.args.from start.args.to
       start.args.before
-  given = start.pre.0
+  given = start.requires.0
 
   abbrev t : Table
   t = given.table
@@ -70,159 +70,159 @@ module _ (c : tie.In-loop invariant-loop decreases-loop) where
   S = states_of start.args.kind
 
   here : k < given.sections
-  here = omega (arith, c.loop-test.true, given.within)
+  here = omega (arith, c.loop-k-test.true, given.within)
 
   inside : (2 * k + 1 < length start.args.channel.now) × (k < length start.args.apriori.now) × (length start.args.channel.now ≤ 8192) × (start.args.kind.half ≤ 8)
   inside = placed given.winged k here
 
   row_fits : (S * k + S ≤ S * start.args.to) × (S * start.args.to ≤ 65536)
-  row_fits = row_place S k start.args.to (omega (arith, inside)) (omega (arith, given.within, few_sections given.winged.pass)) c.loop-test.true
+  row_fits = row_place S k start.args.to (omega (arith, inside)) (omega (arith, given.within, few_sections given.winged.pass)) c.loop-k-test.true
 
-  row_is : Agree S (row c.before.loop.m) (forward t v (boundary given.start) k)
-  row_is = (c.before.loop.invariant.3 t given.sections given.start given.winged given.row_is).0
+  row_is : Agree S (row c.loop-k.m) (forward t v (boundary given.start) k)
+  row_is = (c.loop-k.invariant.3 t given.sections given.start given.winged given.row_is).0
 
-  row_small : Held S (row c.before.loop.m)
+  row_small : Held S (row c.loop-k.m)
   row_small = record { small = λ s l. rw (row_is s l) (forward_is_small given.winged.pass given.start k s (omega (arith, here))) }
 
-  row-reached : start.args.plain ≡ true → Reached S (row c.before.loop.m)
+  row-reached : start.args.plain ≡ true → Reached S (row c.loop-k.m)
   row-reached p =
       reached_same row_is
-      (reached_forward given.winged (boundary given.start) start.args.from k c.before.loop.invariant.0
-      (reached_same (λ s l. sym (given.row_is s l)) (start.pre.1.0 p)))
+      (reached_forward given.winged (boundary given.start) start.args.from k c.loop-k.invariant.0
+      (reached_same (λ s l. sym (given.row_is s l)) (start.requires.1.0 p)))
 
-loop-holds : tie.Need-loop-init invariant-loop decreases-loop
-loop-holds c = (omega arith, c.requires.0.ordered, refl, λ t n a winged same. (same, λ rows. rows))
+loop-k-init : tie.Need-loop-k-init invariant-loop decreases-loop
+loop-k-init c = (omega arith, c.requires.0.ordered, refl, λ t n a winged same. (same, λ rows. rows))
 
-mul-own-of : tie.Need-overflow-mul-own-of invariant-loop decreases-loop
-mul-own-of c = omega (arith, inside c)
+offset_bounds-apriori-k : tie.Need-offset_bounds-apriori-k invariant-loop decreases-loop
+offset_bounds-apriori-k c = omega (arith, inside c)
 
-shared-slice-copy-out-own-of : tie.Need-shared-slice-copy-out-own-of invariant-loop decreases-loop
-shared-slice-copy-out-own-of c = omega (arith, inside c)
+bounds-apriori-k : tie.Need-bounds-apriori-k invariant-loop decreases-loop
+bounds-apriori-k c = omega (arith, inside c)
 
-mul-own-of-2 : tie.Need-overflow-mul-own-of-2 invariant-loop decreases-loop
-mul-own-of-2 c = omega (arith, inside c.before)
+overflow_mul-k : tie.Need-overflow_mul-k invariant-loop decreases-loop
+overflow_mul-k c = omega (arith, inside c.before)
 
-mul-own-of-3 : tie.Need-overflow-mul-own-of-3 invariant-loop decreases-loop
-mul-own-of-3 c = omega (arith, inside c.before)
+offset_bounds-channel-k : tie.Need-offset_bounds-channel-k invariant-loop decreases-loop
+offset_bounds-channel-k c = omega (arith, inside c.before)
 
-shared-slice-copy-out-own-of-2 : tie.Need-shared-slice-copy-out-own-of-2 invariant-loop decreases-loop
-shared-slice-copy-out-own-of-2 c = omega (arith, inside c.before)
+bounds-channel-k : tie.Need-bounds-channel-k invariant-loop decreases-loop
+bounds-channel-k c = omega (arith, inside c.before)
 
-own-of-requires : tie.Need-own-of-requires invariant-loop decreases-loop
-own-of-requires c κs = search rules
+own_of-own-requires : tie.Need-own_of-own-requires invariant-loop decreases-loop
+own_of-own-requires c κs = search rules
 
-mul-other : tie.Need-overflow-mul-other invariant-loop decreases-loop
-mul-other c = omega (arith, inside c.before.before.before)
+overflow_mul-other : tie.Need-overflow_mul-other invariant-loop decreases-loop
+overflow_mul-other c = omega (arith, inside c.before.before.before)
 
-add-other : tie.Need-overflow-add-other invariant-loop decreases-loop
-add-other c = omega (arith, inside c.before.before.before)
+overflow_add-other : tie.Need-overflow_add-other invariant-loop decreases-loop
+overflow_add-other c = omega (arith, inside c.before.before.before)
 
-mul-other-2 : tie.Need-overflow-mul-other-2 invariant-loop decreases-loop
-mul-other-2 c = omega (arith, inside c.before.before.before)
+offset_bounds-channel-k-in-loop-k : tie.Need-offset_bounds-channel-k-in-loop-k invariant-loop decreases-loop
+offset_bounds-channel-k-in-loop-k c = omega (arith, inside c.before.before.before)
 
-shared-slice-copy-out-other : tie.Need-shared-slice-copy-out-other invariant-loop decreases-loop
-shared-slice-copy-out-other c = omega (arith, inside c.before.before.before)
+bounds-channel-k-in-loop-k : tie.Need-bounds-channel-k-in-loop-k invariant-loop decreases-loop
+bounds-channel-k-in-loop-k c = omega (arith, inside c.before.before.before)
 
-cast-other : tie.Need-overflow-cast-other invariant-loop decreases-loop
-cast-other c = rw (to_z-of_z (fits_of c.other.given)) (widen (fits_of c.other.given))
+overflow_cast-other : tie.Need-overflow_cast-other invariant-loop decreases-loop
+overflow_cast-other c = rw (to_z-of_z (fits_of c.other-1.given)) (widen (fits_of c.other-1.given))
 
-add_at : tie.Need-overflow-add-at invariant-loop decreases-loop
-add_at c = omega (arith, inside c.before.before.before.before.before)
+overflow_add-at : tie.Need-overflow_add-at invariant-loop decreases-loop
+overflow_add-at c = omega (arith, inside c.before.before.before.before.before)
 
-mul_at : tie.Need-overflow-mul-at invariant-loop decreases-loop
-mul_at c = omega (arith, row_fits c.before.before.before.before.before)
+overflow_mul-at : tie.Need-overflow_mul-at invariant-loop decreases-loop
+overflow_mul-at c = omega (arith, row_fits c.before.before.before.before.before)
 
 -- ---- the section's values, of every table with these wings
 
-module _ (c : tie.After-step-forwards-arg invariant-loop decreases-loop) where
-  abbrev worked : tie.After-own-of invariant-loop decreases-loop
+module _ (c : tie.After-step_forwards-arg-1 invariant-loop decreases-loop) where
+  abbrev worked : tie.After-own_of-own invariant-loop decreases-loop
   worked = c.before.before.before
 
-  abbrev turn : tie.In-loop invariant-loop decreases-loop
+  abbrev turn : tie.In-loop-k invariant-loop decreases-loop
   turn = worked.before.before.before
 
   module _ (t : Table) (n : ℕ) (w : Winged t n (v turn) (start turn).args.kind.half (start turn).args.signs.now) where
-    own_is : to_z w32 (of_z w32 worked.own_of_lem.result) ≡ own_at t (v turn) (k turn)
+    own_is : to_z w32 (of_z w32 worked.own_of-own.result) ≡ own_at t (v turn) (k turn)
     own_is =
-        to_z-of_z (fits_of worked.own_of_lem.ok)
-        ∙ rw (to_z-of_z (fits_of worked.before.before.own-of-arg.given), to_z-of_z (fits_of worked.before.own-of-arg2.given)) at worked.own_of_lem.ensures
+        to_z-of_z {w = w32} (fits_of worked.own_of-own.type_inv)
+        ∙ rw (to_z-of_z (fits_of worked.own_of-arg-1.given), to_z-of_z (fits_of worked.own_of-arg-in-loop-k-1.given)) at worked.own_of-own.ensures
         ∙ own_read w (k turn)
 
     other-is :
         to_z w32 (of_z w32 (to_z w16 (of_z w16 (get_or (start turn).args.channel.now (2 * k turn + 1) (pos 0))))) ≡ other_at t (v turn) (k turn)
-    other-is = read_back (fits_of c.before.before.other.given) ∙ other_read w (k turn)
+    other-is = read_back (fits_of c.other-1.given) ∙ other_read w (k turn)
 
-step-forwards-requires : tie.Need-step-forwards-requires invariant-loop decreases-loop
-step-forwards-requires c κs =
+step_forwards-after-requires : tie.Need-step_forwards-after-requires invariant-loop decreases-loop
+step_forwards-after-requires c κs =
     let tn = turn c in
     let w = (given tn).winged in
-    let room = (start tn).pre.1.1 in
+    let room = (start tn).requires.1.1 in
     rw (own_is c (t tn) _ w, other-is c (t tn) _ w) (
       (given tn).known,
       (
         own_small w (k tn),
         (
           other_small w (k tn),
-          (row_small tn, (row-reached tn, omega (arith, row_fits tn, tn.before.loop.inv.2, room))),
+          (row_small tn, (row-reached tn, omega (arith, row_fits tn, tn.loop-k.invariant.2, room))),
         ),
       ),
     )
 
-add-k : tie.Need-overflow-add-k invariant-loop decreases-loop
-add-k c = omega (arith, inside (turn c.before.before))
+overflow_add-k : tie.Need-overflow_add-k invariant-loop decreases-loop
+overflow_add-k c = omega (arith, inside (turn c.before.before))
 
-loop-less : tie.Need-loop-smaller invariant-loop decreases-loop
-loop-less c = search rules
+loop-k-smaller : tie.Need-loop-k-smaller invariant-loop decreases-loop
+loop-k-smaller c = search rules
 
-loop-again : tie.Need-loop-preserved invariant-loop decreases-loop
-loop-again c =
+loop-k-preserved : tie.Need-loop-k-preserved invariant-loop decreases-loop
+loop-k-preserved c =
     let arg = c.before.before in
     let tn = turn arg in
-    let inv = tn.before.loop.inv in
-    let (row_made, saved) = c.before.step-forwards.ensures in (
+    let inv = tn.loop-k.invariant in
+    let (row_made, saved) = c.step_forwards-after.ensures in (
       omega (arith, inv.0),
-      omega (arith, tn.loop-test.taken),
-      c.before.step-forwards.auto.1.1.1.1.1.1.0 ∙ inv.2,
+      omega (arith, tn.loop-k-test.true),
+      c.step_forwards-after.auto.work ∙ inv.2,
       λ t n a w same.
           let (row-was, rows) = inv.3 t n a w same in (
             λ s l.
                 row_made (next_state t) (branch_metric t (v tn) (k tn)) (rw (own_is arg t n w, other-is arg t n w) (w.wings (k tn))) s l
                 ∙ next_forward t (v tn) (k tn) w.halves (boundary a) row-was s,
-            λ before. row_more tn.before.loop.m w.halves row-was saved (rows before),
+            λ before. row_more tn.loop-k.m w.halves row-was saved (rows before),
           ),
     )
 
-same_length : tie.Need-same-length invariant-loop decreases-loop
-same_length c = c.before.loop.invariant.2
+shape_of-work : tie.Need-shape_of-work invariant-loop decreases-loop
+shape_of-work c = c.loop-k.invariant.2
 
 returns : tie.Need-returns invariant-loop decreases-loop
 returns c =
-    let e : c.before.loop.k ≡ c.before.before.args.to = omega (arith, c.before.loop.invariant.1, c.loop-test.false) in
-    rw e at c.before.loop.invariant.3
+    let e : c.loop-k.k ≡ c.args.to = omega (arith, c.loop-k.invariant.1, c.loop-k-test.false) in
+    rw e at c.loop-k.invariant.3
 
-pub forward-spec : {M : Type 1} → statement M
-forward-spec =
+pub forward_spec : {M : Type 1} → statement M
+forward_spec =
     tie.close
     (tie.spec
     invariant-loop
     decreases-loop
-    loop-holds
-    mul-own-of
-    shared-slice-copy-out-own-of
-    mul-own-of-2
-    mul-own-of-3
-    shared-slice-copy-out-own-of-2
-    own-of-requires
-    mul-other
-    add-other
-    mul-other-2
-    shared-slice-copy-out-other
-    cast-other
-    add_at
-    mul_at
-    step-forwards-requires
-    add-k
-    loop-less
-    loop-again
-    same_length
+    loop-k-init
+    offset_bounds-apriori-k
+    bounds-apriori-k
+    overflow_mul-k
+    offset_bounds-channel-k
+    bounds-channel-k
+    own_of-own-requires
+    overflow_mul-other
+    overflow_add-other
+    offset_bounds-channel-k-in-loop-k
+    bounds-channel-k-in-loop-k
+    overflow_cast-other
+    overflow_add-at
+    overflow_mul-at
+    step_forwards-after-requires
+    overflow_add-k
+    loop-k-smaller
+    loop-k-preserved
+    shape_of-work
     returns)

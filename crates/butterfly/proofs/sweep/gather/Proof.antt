@@ -46,7 +46,7 @@ module _ (kind : Kind) (signs channel apriori : List ℤ) (to left : ℕ) (first
       × ((ms : List ℕ) (gs es : List ℤ)
       → LeftFrom t v first false zeros ones n gs es to ms margins₀ extrinsics₀ → LeftFrom t v first false zeros ones n gs es left ms margins extrinsics)
 
-abbrev invariant-loop : tie.invariant-loop
+abbrev invariant-loop : tie.invariant-loop-left
 invariant-loop plain kind signs from to channel apriori first margins₀ extrinsics₀ work m₀ left₀ margins extrinsics m left =
     (from ≤ left)
     × (left ≤ to)
@@ -54,17 +54,17 @@ invariant-loop plain kind signs from to channel apriori first margins₀ extrins
     × (length extrinsics ≡ length extrinsics₀)
     × Swept kind signs channel apriori to left first m₀ work margins₀ extrinsics₀ m margins extrinsics
 
-abbrev decreases-loop : tie.decreases-loop
+abbrev decreases-loop : tie.decreases-loop-left
 decreases-loop plain kind signs from to channel apriori first margins₀ extrinsics₀ work m₀ left₀ margins extrinsics m left = left
 
 -- ---- a turn of the loop
 
-module _ (c : tie.In-loop invariant-loop decreases-loop) where
+module _ (c : tie.In-loop-left invariant-loop decreases-loop) where
   abbrev start : tie.Start invariant-loop decreases-loop
   start = c.before.before
 
   abbrev left : ℕ
-  left = c.before.loop.left
+  left = c.loop-left.left
 
   -- its section
   abbrev k : ℕ
@@ -74,7 +74,7 @@ module _ (c : tie.In-loop invariant-loop decreases-loop) where
   given :
       Behind start.args.kind start.args.signs.now start.args.channel.now start.args.apriori.now start.args.from start.args.to
       start.args.after start.args.work.now
-  given = start.pre.0
+  given = start.requires.0
 
   abbrev v : Values
   v = values_of start.args.channel.now start.args.apriori.now
@@ -83,7 +83,7 @@ module _ (c : tie.In-loop invariant-loop decreases-loop) where
   S = states_of start.args.kind
 
   bounds : (start.args.from < left) × (left ≤ start.args.to) × (start.args.to ≤ given.sections)
-  bounds = (c.loop-test.true, c.before.loop.invariant.1, given.within)
+  bounds = (c.loop-left-test.true, c.loop-left.invariant.1, given.within)
 
   inside : (2 * k + 1 < length start.args.channel.now) × (k < length start.args.apriori.now) × (length start.args.channel.now ≤ 8192) × (start.args.kind.half ≤ 8)
   inside = placed given.winged k (omega (arith, bounds))
@@ -92,11 +92,11 @@ module _ (c : tie.In-loop invariant-loop decreases-loop) where
   row_fits =
       row_place S k start.args.to (omega (arith, inside)) (omega (arith, bounds, few_sections given.winged.pass)) (omega (arith, bounds))
 
-  after_is : Agree S (row c.before.loop.m) (backward given.table v (ending given.end given.start) left (given.sections - left))
+  after_is : Agree S (row c.loop-left.m) (backward given.table v (ending given.end given.start) left (given.sections - left))
   after_is =
-      (c.before.loop.invariant.4 given.table given.sections given.end given.start given.winged given.within given.rows given.row_is).0
+      (c.loop-left.invariant.4 given.table given.sections given.end given.start given.winged given.within given.rows given.row_is).0
 
-  after_small : Held S (row c.before.loop.m)
+  after_small : Held S (row c.loop-left.m)
   after_small = record { small = λ s l. rw (after_is s l) (backward_is_small given.winged.pass given.end given.start left s) }
 
   before-is : Agree S (row_at start.args.work.now (S * k)) (forward given.table v (boundary given.start) k)
@@ -105,85 +105,85 @@ module _ (c : tie.In-loop invariant-loop decreases-loop) where
   before_small : Held S (row_at start.args.work.now (S * k))
   before_small = record { small = λ s l. rw (before-is s l) (forward_is_small given.winged.pass given.start k s (omega (arith, bounds))) }
 
-  both-reached : start.args.plain ≡ true → Reached S (row c.before.loop.m) × Reached S (row_at start.args.work.now (S * k))
+  both-reached : start.args.plain ≡ true → Reached S (row c.loop-left.m) × Reached S (row_at start.args.work.now (S * k))
   both-reached p =
-      let (full, rows-full) = start.pre.1.0 p in (
+      let (full, rows-full) = start.requires.1.0 p in (
         reached_same after_is
             (reached_backward given.winged (ending given.end given.start) start.args.to left (omega (arith, bounds)) given.within
             (reached_same (λ s l. sym (given.row_is s l)) full)),
         rows-full k (omega (arith, bounds)) (omega (arith, bounds)),
       )
 
-loop-holds : tie.Need-loop-init invariant-loop decreases-loop
-loop-holds c = (c.requires.0.ordered, omega arith, refl, refl, λ t n end a w within rows same. (same, λ ms gs es so_far. so_far))
+loop-left-init : tie.Need-loop-left-init invariant-loop decreases-loop
+loop-left-init c = (c.requires.0.ordered, omega arith, refl, refl, λ t n end a w within rows same. (same, λ ms gs es so_far. so_far))
 
-sub-k : tie.Need-overflow-sub-k invariant-loop decreases-loop
-sub-k c = omega (arith, bounds c)
+overflow_sub-k : tie.Need-overflow_sub-k invariant-loop decreases-loop
+overflow_sub-k c = omega (arith, bounds c)
 
-mul-own-of : tie.Need-overflow-mul-own-of invariant-loop decreases-loop
-mul-own-of c = omega (arith, inside c)
+offset_bounds-apriori-k : tie.Need-offset_bounds-apriori-k invariant-loop decreases-loop
+offset_bounds-apriori-k c = omega (arith, inside c)
 
-shared-slice-copy-out-own-of : tie.Need-shared-slice-copy-out-own-of invariant-loop decreases-loop
-shared-slice-copy-out-own-of c = omega (arith, inside c)
+bounds-apriori-k : tie.Need-bounds-apriori-k invariant-loop decreases-loop
+bounds-apriori-k c = omega (arith, inside c)
 
-mul-own-of-2 : tie.Need-overflow-mul-own-of-2 invariant-loop decreases-loop
-mul-own-of-2 c = omega (arith, inside c.before)
+overflow_mul-k : tie.Need-overflow_mul-k invariant-loop decreases-loop
+overflow_mul-k c = omega (arith, inside c.before)
 
-mul-own-of-3 : tie.Need-overflow-mul-own-of-3 invariant-loop decreases-loop
-mul-own-of-3 c = omega (arith, inside c.before)
+offset_bounds-channel-k : tie.Need-offset_bounds-channel-k invariant-loop decreases-loop
+offset_bounds-channel-k c = omega (arith, inside c.before)
 
-shared-slice-copy-out-own-of-2 : tie.Need-shared-slice-copy-out-own-of-2 invariant-loop decreases-loop
-shared-slice-copy-out-own-of-2 c = omega (arith, inside c.before)
+bounds-channel-k : tie.Need-bounds-channel-k invariant-loop decreases-loop
+bounds-channel-k c = omega (arith, inside c.before)
 
-own-of-requires : tie.Need-own-of-requires invariant-loop decreases-loop
-own-of-requires c κs = search rules
+own_of-own-requires : tie.Need-own_of-own-requires invariant-loop decreases-loop
+own_of-own-requires c κs = search rules
 
-mul-other : tie.Need-overflow-mul-other invariant-loop decreases-loop
-mul-other c = omega (arith, inside c.before.before.before)
+overflow_mul-other : tie.Need-overflow_mul-other invariant-loop decreases-loop
+overflow_mul-other c = omega (arith, inside c.before.before.before)
 
-add-other : tie.Need-overflow-add-other invariant-loop decreases-loop
-add-other c = omega (arith, inside c.before.before.before)
+overflow_add-other : tie.Need-overflow_add-other invariant-loop decreases-loop
+overflow_add-other c = omega (arith, inside c.before.before.before)
 
-mul-other-2 : tie.Need-overflow-mul-other-2 invariant-loop decreases-loop
-mul-other-2 c = omega (arith, inside c.before.before.before)
+offset_bounds-channel-k-in-loop-left : tie.Need-offset_bounds-channel-k-in-loop-left invariant-loop decreases-loop
+offset_bounds-channel-k-in-loop-left c = omega (arith, inside c.before.before.before)
 
-shared-slice-copy-out-other : tie.Need-shared-slice-copy-out-other invariant-loop decreases-loop
-shared-slice-copy-out-other c = omega (arith, inside c.before.before.before)
+bounds-channel-k-in-loop-left : tie.Need-bounds-channel-k-in-loop-left invariant-loop decreases-loop
+bounds-channel-k-in-loop-left c = omega (arith, inside c.before.before.before)
 
-cast-other : tie.Need-overflow-cast-other invariant-loop decreases-loop
-cast-other c = rw (to_z-of_z (fits_of c.other.given)) (widen (fits_of c.other.given))
+overflow_cast-other : tie.Need-overflow_cast-other invariant-loop decreases-loop
+overflow_cast-other c = rw (to_z-of_z (fits_of c.other-1.given)) (widen (fits_of c.other-1.given))
 
-add_at : tie.Need-overflow-add-at invariant-loop decreases-loop
-add_at c = omega (arith, inside c.before.before.before.before.before)
+overflow_add-at : tie.Need-overflow_add-at invariant-loop decreases-loop
+overflow_add-at c = omega (arith, inside c.before.before.before.before.before)
 
-mul_at : tie.Need-overflow-mul-at invariant-loop decreases-loop
-mul_at c = omega (arith, row_fits c.before.before.before.before.before)
+overflow_mul-at : tie.Need-overflow_mul-at invariant-loop decreases-loop
+overflow_mul-at c = omega (arith, row_fits c.before.before.before.before.before)
 
 -- ---- the section's values, of every table with these wings
 
-module _ (c : tie.After-struct-known invariant-loop decreases-loop) where
-  abbrev worked : tie.After-own-of invariant-loop decreases-loop
+module _ (c : tie.After-struct_known-1 invariant-loop decreases-loop) where
+  abbrev worked : tie.After-own_of-own invariant-loop decreases-loop
   worked = c.before.before
 
-  abbrev turn : tie.In-loop invariant-loop decreases-loop
+  abbrev turn : tie.In-loop-left invariant-loop decreases-loop
   turn = worked.before.before.before
 
   module _ (t : Table) (n : ℕ) (w : Winged t n (v turn) (start turn).args.kind.half (start turn).args.signs.now) where
-    own_is : to_z w32 (of_z w32 worked.own_of_lem.result) ≡ own_at t (v turn) (k turn)
+    own_is : to_z w32 (of_z w32 worked.own_of-own.result) ≡ own_at t (v turn) (k turn)
     own_is =
-        to_z-of_z (fits_of worked.own_of_lem.ok)
-        ∙ rw (to_z-of_z (fits_of worked.before.before.own-of-arg.given), to_z-of_z (fits_of worked.before.own-of-arg2.given)) at worked.own_of_lem.ensures
+        to_z-of_z {w = w32} (fits_of worked.own_of-own.type_inv)
+        ∙ rw (to_z-of_z (fits_of worked.own_of-arg-1.given), to_z-of_z (fits_of worked.own_of-arg-in-loop-left-1.given)) at worked.own_of-own.ensures
         ∙ own_read w (k turn)
 
     other-is :
         to_z w32 (of_z w32 (to_z w16 (of_z w16 (get_or (start turn).args.channel.now (2 * k turn + 1) (pos 0))))) ≡ other_at t (v turn) (k turn)
-    other-is = read_back (fits_of c.before.other.given) ∙ other_read w (k turn)
+    other-is = read_back (fits_of c.other-1.given) ∙ other_read w (k turn)
 
-step-backwards-requires : tie.Need-step-backwards-requires invariant-loop decreases-loop
-step-backwards-requires c κs =
+step_backwards-b-requires : tie.Need-step_backwards-b-requires invariant-loop decreases-loop
+step_backwards-b-requires c κs =
     let tn = turn c in
     let w = (given tn).winged in
-    let room = (start tn).pre.1.1.0 in
+    let room = (start tn).requires.1.1.0 in
     rw (own_is c _ _ w, other-is c _ _ w) (
       (given tn).known,
       (
@@ -197,78 +197,78 @@ step-backwards-requires c κs =
 
 -- ---- what is raised
 
-abbrev stepped : tie.After-struct-told2 invariant-loop decreases-loop → tie.After-step-backwards invariant-loop decreases-loop
+abbrev stepped : tie.After-struct_told-in-loop-left-1 invariant-loop decreases-loop → tie.After-step_backwards-b invariant-loop decreases-loop
 stepped c = c.before.before.before.before
 
-raise-at-requires : tie.Need-raise-at-requires invariant-loop decreases-loop
-raise-at-requires c κs =
+raise_at-requires : tie.Need-raise_at-requires invariant-loop decreases-loop
+raise_at-requires c κs =
     let tn = turn (stepped c).before in
-    let inv = tn.before.loop.inv in
-    let (margins_long, extrinsics_long) = (start tn).pre.1.1.1 in
+    let inv = tn.loop-left.invariant in
+    let (margins_long, extrinsics_long) = (start tn).requires.1.1.1 in
     (omega (arith, bounds tn, inv.2, margins_long), omega (arith, bounds tn, inv.3, extrinsics_long))
 
-loop-less : tie.Need-loop-smaller invariant-loop decreases-loop
-loop-less c = omega (arith, bounds (turn (stepped c.before.before.before.before).before))
+loop-left-smaller : tie.Need-loop-left-smaller invariant-loop decreases-loop
+loop-left-smaller c = omega (arith, bounds (turn (stepped c.before.before.before.before).before))
 
 -- both best metrics are words
-best-fits : (c : tie.After-struct-told2 invariant-loop decreases-loop) → let b = (stepped c).step-backwards.result in SFits w32 b.zero × SFits w32 b.one
-best-fits c = let told = c.struct-told2.given in (search rules, search rules)
+best-fits : (c : tie.After-struct_told-in-loop-left-1 invariant-loop decreases-loop) → let b = (stepped c).step_backwards-b.result in SFits w32 b.zero × SFits w32 b.one
+best-fits c = let told = c.struct_told-in-loop-left-1.given in (search rules, search rules)
 
 -- ---- a turn, of a table with these wings and of an end and a start that have the rows
 
-module _ (c : tie.After-struct-told2 invariant-loop decreases-loop) where
-  abbrev back : tie.After-step-backwards invariant-loop decreases-loop
+module _ (c : tie.After-struct_told-in-loop-left-1 invariant-loop decreases-loop) where
+  abbrev back : tie.After-step_backwards-b invariant-loop decreases-loop
   back = stepped c
 
-  abbrev tn : tie.In-loop invariant-loop decreases-loop
+  abbrev tn : tie.In-loop-left invariant-loop decreases-loop
   tn = turn back.before
 
   module _
       (t : Table) (n : ℕ) (end : End) (a : ℕ) (w : Winged t n (v tn) (start tn).args.kind.half (start tn).args.signs.now) (within : (start tn).args.to ≤ n)
       (rows : Forward t (v tn) a (start tn).args.to (start tn).args.work.now)
-      (row-was : Agree (S tn) (row tn.before.loop.m) (backward t (v tn) (ending end a) (left tn) (n - left tn)))
+      (row-was : Agree (S tn) (row tn.loop-left.m) (backward t (v tn) (ending end a) (left tn) (n - left tn)))
     where
       here : k tn < n
       here = omega (arith, bounds tn)
 
-      after-row : Agree (S tn) (row tn.before.loop.m) (backward t (v tn) (ending end a) (k tn + 1) (n - (k tn + 1)))
+      after-row : Agree (S tn) (row tn.loop-left.m) (backward t (v tn) (ending end a) (k tn + 1) (n - (k tn + 1)))
       after-row = let e : k tn + 1 ≡ left tn = omega (arith, bounds tn) in rw e row-was
 
       before-row : Agree (S tn) (row_at (start tn).args.work.now (S tn * k tn)) (forward t (v tn) (boundary a) (k tn))
       before-row = row_of w rows (k tn) (omega (arith, bounds tn))
 
       backed :
-          Backed (next_state t) (branch_metric t (v tn) (k tn)) (start tn).args.kind.half tn.before.loop.m (start tn).args.work.now (S tn * k tn)
-          back.step-backwards.result.metrics back.step-backwards.result.zero back.step-backwards.result.one
+          Backed (next_state t) (branch_metric t (v tn) (k tn)) (start tn).args.kind.half tn.loop-left.m (start tn).args.work.now (S tn * k tn)
+          back.step_backwards-b.result.metrics back.step_backwards-b.result.zero back.step_backwards-b.result.one
       backed =
-          back.step-backwards.ensures (next_state t) (branch_metric t (v tn) (k tn))
+          back.step_backwards-b.ensures (next_state t) (branch_metric t (v tn) (k tn))
           (rw (own_is back.before t n w, other-is back.before t n w) (w.wings (k tn)))
 
-      row_moved : Agree (S tn) (row back.step-backwards.result.metrics) (backward t (v tn) (ending end a) (k tn) (n - k tn))
+      row_moved : Agree (S tn) (row back.step_backwards-b.result.metrics) (backward t (v tn) (ending end a) (k tn) (n - k tn))
       row_moved s l =
           backed.metrics_are s l ∙ next_backward t (v tn) (k tn) w.halves (table_closed w.pass) (ending end a) n here after-row s l
 
-      zero-met : held (to_z w32 (of_z w32 back.step-backwards.result.zero)) ≡ meet_from t (v tn) end n (k tn) 0 a
+      zero-met : held (to_z w32 (of_z w32 back.step_backwards-b.result.zero)) ≡ meet_from t (v tn) end n (k tn) 0 a
       unfolding meet_from
       zero-met =
           ap held (to_z-of_z (best-fits c).0)
           ∙ backed.zero_is
           ∙ next_meet t (v tn) (k tn) w.halves (table_closed w.pass) (ending end a) n here after-row (boundary a) before-row 0 (omega arith)
 
-      one-met : held (to_z w32 (of_z w32 back.step-backwards.result.one)) ≡ meet_from t (v tn) end n (k tn) 1 a
+      one-met : held (to_z w32 (of_z w32 back.step_backwards-b.result.one)) ≡ meet_from t (v tn) end n (k tn) 1 a
       unfolding meet_from
       one-met =
           ap held (to_z-of_z (best-fits c).1)
           ∙ backed.one_is
           ∙ next_meet t (v tn) (k tn) w.halves (table_closed w.pass) (ending end a) n here after-row (boundary a) before-row 1 (omega arith)
 
-loop-again : tie.Need-loop-preserved invariant-loop decreases-loop
-loop-again c =
+loop-left-preserved : tie.Need-loop-left-preserved invariant-loop decreases-loop
+loop-left-preserved c =
     let raised = c.before.before.before in
     let told = raised.before in
-    let inv = (tn told).before.loop.invariant in
-    let margins-kept = raised.raise-at.auto.1.1.1.1.0 in
-    let extrinsics-kept = raised.raise-at.auto.1.1.1.1.1.0 in (
+    let inv = (tn told).loop-left.invariant in
+    let margins-kept = raised.raise_at.auto.margins in
+    let extrinsics-kept = raised.raise_at.auto.extrinsics in (
       omega (arith, bounds (tn told)),
       omega (arith, bounds (tn told)),
       margins-kept ∙ inv.2,
@@ -279,47 +279,47 @@ loop-again c =
             λ ms gs es before.
                 left_more t (v (tn told)) _ _ _ _ n gs es (omega (arith, bounds (tn told))) (so_far ms gs es before)
                 (zero-met told t n end a w within rows row-was) (one-met told t n end a w within rows row-was) refl
-                (raised.raise-at.ensures (intrinsic t (v (tn told)) (k (tn told))) ms)
+                (raised.raise_at.ensures (intrinsic t (v (tn told)) (k (tn told))) ms)
                 refl margins-kept extrinsics-kept,
           ),
     )
 
-same_length : tie.Need-same-length invariant-loop decreases-loop
-same_length c = c.before.loop.invariant.2
+shape_of-margins : tie.Need-shape_of-margins invariant-loop decreases-loop
+shape_of-margins c = c.loop-left.invariant.2
 
-same-length-2 : tie.Need-same-length-2 invariant-loop decreases-loop
-same-length-2 c = c.before.loop.invariant.3
+shape_of-extrinsics : tie.Need-shape_of-extrinsics invariant-loop decreases-loop
+shape_of-extrinsics c = c.loop-left.invariant.3
 
 returns : tie.Need-returns invariant-loop decreases-loop
 returns c =
-    let e : c.before.loop.left ≡ c.before.before.args.from = omega (arith, c.before.loop.invariant.0, c.loop-test.false) in
-    rw e at c.before.loop.invariant.4
+    let e : c.loop-left.left ≡ c.args.from = omega (arith, c.loop-left.invariant.0, c.loop-left-test.false) in
+    rw e at c.loop-left.invariant.4
 
-pub gather-spec : {M : Type 1} → statement M
-gather-spec =
+pub gather_spec : {M : Type 1} → statement M
+gather_spec =
     tie.close
     (tie.spec
     invariant-loop
     decreases-loop
-    loop-holds
-    sub-k
-    mul-own-of
-    shared-slice-copy-out-own-of
-    mul-own-of-2
-    mul-own-of-3
-    shared-slice-copy-out-own-of-2
-    own-of-requires
-    mul-other
-    add-other
-    mul-other-2
-    shared-slice-copy-out-other
-    cast-other
-    add_at
-    mul_at
-    step-backwards-requires
-    raise-at-requires
-    loop-less
-    loop-again
-    same_length
-    same-length-2
+    loop-left-init
+    overflow_sub-k
+    offset_bounds-apriori-k
+    bounds-apriori-k
+    overflow_mul-k
+    offset_bounds-channel-k
+    bounds-channel-k
+    own_of-own-requires
+    overflow_mul-other
+    overflow_add-other
+    offset_bounds-channel-k-in-loop-left
+    bounds-channel-k-in-loop-left
+    overflow_cast-other
+    overflow_add-at
+    overflow_mul-at
+    step_backwards-b-requires
+    raise_at-requires
+    loop-left-smaller
+    loop-left-preserved
+    shape_of-margins
+    shape_of-extrinsics
     returns)

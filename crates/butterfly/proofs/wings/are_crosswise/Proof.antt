@@ -7,30 +7,30 @@ use borrow.Author.Tests.{eqb-true}
 use Rattle.butterfly.proofs.wings.are_crosswise.Statement.{statement}
 use Rattle.butterfly.proofs.wings.are_crosswise.Tie as tie
 
-returns : tie.Need-returns
-returns c e = absurd (false≢true e)
+returns-then-far_zero-one : tie.Need-returns-then-far_zero-one
+returns-then-far_zero-one c e = absurd (false≢true e)
 
-returns-2 : tie.Need-returns-2
-returns-2 c e = absurd (false≢true e)
+returns-then-far_one-zero : tie.Need-returns-then-far_one-zero
+returns-then-far_one-zero c e = absurd (false≢true e)
 
-add-result : tie.Need-overflow-add-result
-add-result c = search rules
+overflow_add-result : tie.Need-overflow_add-result
+overflow_add-result c = search rules
 
-returns-3 : tie.Need-returns-3
-returns-3 c e =
+returns-then-first-even : tie.Need-returns-then-first-even
+returns-then-first-even c e =
     let across = c.before in
-    record { near = inl (c.if3.true, eqb-true _ _ e); zero_across = across.before.if1.false; one_across = across.if2.false }
+    record { near = inl (c.if-first-even.true, eqb-true _ _ e); zero_across = across.if-far_zero-one.false; one_across = across.if-far_one-zero.false }
 
-add-if4 : tie.Need-overflow-add-if4
-add-if4 c = search rules
+overflow_add-even : tie.Need-overflow_add-even
+overflow_add-even c = search rules
 
-returns-4 : tie.Need-returns-4
-returns-4 c e = absurd (false≢true e)
+returns-then-first-even-2 : tie.Need-returns-then-first-even-2
+returns-then-first-even-2 c e = absurd (false≢true e)
 
-returns-5 : tie.Need-returns-5
-returns-5 c e =
+returns : tie.Need-returns
+returns c e =
     let across = c.before.before in
-    record { near = inr (c.if4.false, eqb-true _ _ e); zero_across = across.before.if1.false; one_across = across.if2.false }
+    record { near = inr (c.if-first-even-2.false, eqb-true _ _ e); zero_across = across.if-far_zero-one.false; one_across = across.if-far_one-zero.false }
 
-pub are-crosswise-spec : {M : Type 1} → statement M
-are-crosswise-spec = tie.close (tie.spec returns returns-2 add-result returns-3 add-if4 returns-4 returns-5)
+pub are_crosswise_spec : {M : Type 1} → statement M
+are_crosswise_spec = tie.close (tie.spec returns-then-far_zero-one returns-then-far_one-zero overflow_add-result returns-then-first-even overflow_add-even returns-then-first-even-2 returns)

@@ -6,24 +6,24 @@ use borrow.Author.Tests.{eqb-true}
 use Rattle.butterfly.proofs.wings.are_opposite.Statement.{statement}
 use Rattle.butterfly.proofs.wings.are_opposite.Tie as tie
 
-returns : tie.Need-returns
-returns c e = absurd (false≢true e)
+returns-then-far_zero-zero : tie.Need-returns-then-far_zero-zero
+returns-then-far_zero-zero c e = absurd (false≢true e)
 
-returns-2 : tie.Need-returns-2
-returns-2 c e = absurd (false≢true e)
+returns-then-far_one-one : tie.Need-returns-then-far_one-one
+returns-then-far_one-one c e = absurd (false≢true e)
 
-returns-3 : tie.Need-returns-3
-returns-3 c e =
+returns-then-zero-eq0 : tie.Need-returns-then-zero-eq0
+returns-then-zero-eq0 c e =
     let same = c.before in
-    record { near = inl (c.if3.true, eqb-true _ _ e); zero_same = same.before.if1.false; one_same = same.if2.false }
+    record { near = inl (c.if-zero-eq0.true, eqb-true _ _ e); zero_same = same.if-far_zero-zero.false; one_same = same.if-far_one-one.false }
 
-returns-4 : tie.Need-returns-4
-returns-4 c e = absurd (false≢true e)
+returns-then-zero-ne2 : tie.Need-returns-then-zero-ne2
+returns-then-zero-ne2 c e = absurd (false≢true e)
 
-returns-5 : tie.Need-returns-5
-returns-5 c e =
+returns : tie.Need-returns
+returns c e =
     let same = c.before.before in
-    record { near = inr (c.if4.false, eqb-true _ _ e); zero_same = same.before.if1.false; one_same = same.if2.false }
+    record { near = inr (c.if-zero-ne2.false, eqb-true _ _ e); zero_same = same.if-far_zero-zero.false; one_same = same.if-far_one-one.false }
 
-pub are-opposite-spec : {M : Type 1} → statement M
-are-opposite-spec = tie.close (tie.spec returns returns-2 returns-3 returns-4 returns-5)
+pub are_opposite_spec : {M : Type 1} → statement M
+are_opposite_spec = tie.close (tie.spec returns-then-far_zero-zero returns-then-far_one-one returns-then-zero-eq0 returns-then-zero-ne2 returns)

@@ -10,43 +10,43 @@ use Rattle.butterfly.specs.laws.Tables.{IsWing}
 use Rattle.butterfly.proofs.wings.are_wings.Statement.{statement}
 use Rattle.butterfly.proofs.wings.are_wings.Tie as tie
 
-abbrev invariant-loop : tie.invariant-loop
+abbrev invariant-loop : tie.invariant-loop-i
 invariant-loop half next words i₀ i = (i ≤ half) × ((j : ℕ) → j < i → IsWing next words half j)
 
-abbrev decreases-loop : tie.decreases-loop
+abbrev decreases-loop : tie.decreases-loop-i
 decreases-loop half next words i₀ i = half - i
 
-loop-holds : tie.Need-loop-init invariant-loop decreases-loop
-loop-holds c = (omega arith, λ j l. absurd (omega arith))
+loop-i-init : tie.Need-loop-i-init invariant-loop decreases-loop
+loop-i-init c = (omega arith, λ j l. absurd (omega arith))
 
-is-wing-requires : tie.Need-is-wing-requires invariant-loop decreases-loop
-is-wing-requires c κs = search rules
+is_wing-requires : tie.Need-is_wing-requires invariant-loop decreases-loop
+is_wing-requires c κs = search rules
+
+returns-then-not-is_wing : tie.Need-returns-then-not-is_wing invariant-loop decreases-loop
+returns-then-not-is_wing c e = absurd (false≢true e)
+
+overflow_add-i : tie.Need-overflow_add-i invariant-loop decreases-loop
+overflow_add-i c = search rules
+
+loop-i-smaller : tie.Need-loop-i-smaller invariant-loop decreases-loop
+loop-i-smaller c = search rules
+
+loop-i-preserved : tie.Need-loop-i-preserved invariant-loop decreases-loop
+loop-i-preserved c = (omega arith, below_more _ _ c.loop-i.invariant.1 (c.is_wing.ensures (not-false _ c.if-not-is_wing.false-raw)))
 
 returns : tie.Need-returns invariant-loop decreases-loop
-returns c e = absurd (false≢true e)
+returns c e i l = c.loop-i.invariant.1 i (omega arith)
 
-add-i : tie.Need-overflow-add-i invariant-loop decreases-loop
-add-i c = search rules
-
-loop-less : tie.Need-loop-smaller invariant-loop decreases-loop
-loop-less c = search rules
-
-loop-again : tie.Need-loop-preserved invariant-loop decreases-loop
-loop-again c = (omega arith, below_more _ _ c.before.before.before.loop.invariant.1 (c.before.is_wing.ensures (not-false _ c.if1.false)))
-
-returns-2 : tie.Need-returns-2 invariant-loop decreases-loop
-returns-2 c e i l = c.before.loop.invariant.1 i (omega arith)
-
-pub are-wings-spec : {M : Type 1} → statement M
-are-wings-spec =
+pub are_wings_spec : {M : Type 1} → statement M
+are_wings_spec =
     tie.close
     (tie.spec
     invariant-loop
     decreases-loop
-    loop-holds
-    is-wing-requires
-    returns
-    add-i
-    loop-less
-    loop-again
-    returns-2)
+    loop-i-init
+    is_wing-requires
+    returns-then-not-is_wing
+    overflow_add-i
+    loop-i-smaller
+    loop-i-preserved
+    returns)

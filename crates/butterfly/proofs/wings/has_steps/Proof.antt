@@ -7,16 +7,16 @@ use borrow.Author.Tests.{eqb-true}
 use Rattle.butterfly.proofs.wings.has_steps.Statement.{statement}
 use Rattle.butterfly.proofs.wings.has_steps.Tie as tie
 
+returns-then-states-eq4 : tie.Need-returns-then-states-eq4
+returns-then-states-eq4 c = search rules
+
+returns-then-states-eq8 : tie.Need-returns-then-states-eq8
+returns-then-states-eq8 c = search rules
+
 returns : tie.Need-returns
-returns c = search rules
-
-returns-2 : tie.Need-returns-2
-returns-2 c = search rules
-
-returns-3 : tie.Need-returns-3
-returns-3 c e =
-    let sixteen : c.before.before.args.states ≡ 16 = eqb-true _ 16 e in
+returns c e =
+    let sixteen : c.args.states ≡ 16 = eqb-true _ 16 e in
     record { halves = omega arith; few = omega arith; else_eight = λ h i. omega arith }
 
-pub has-steps-spec : {M : Type 1} → statement M
-has-steps-spec = tie.close (tie.spec returns returns-2 returns-3)
+pub has_steps_spec : {M : Type 1} → statement M
+has_steps_spec = tie.close (tie.spec returns-then-states-eq4 returns-then-states-eq8 returns)

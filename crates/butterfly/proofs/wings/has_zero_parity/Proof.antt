@@ -4,13 +4,13 @@ use Rattle.trellis.specs.Table.{output}
 use Rattle.butterfly.proofs.wings.has_zero_parity.Statement.{statement}
 use Rattle.butterfly.proofs.wings.has_zero_parity.Tie as tie
 
-returns : tie.Need-returns
+returns-then-straight : tie.Need-returns-then-straight
 unfolding output
-returns c = rw c.if1.true
+returns-then-straight c = rw c.if-straight.true
 
-returns-2 : tie.Need-returns-2
+returns-else-straight : tie.Need-returns-else-straight
 unfolding output
-returns-2 c = rw c.if1.false
+returns-else-straight c = rw c.if-straight.false
 
-pub has-zero-parity-spec : {M : Type 1} → statement M
-has-zero-parity-spec = tie.close (tie.spec returns returns-2)
+pub has_zero_parity_spec : {M : Type 1} → statement M
+has_zero_parity_spec = tie.close (tie.spec returns-then-straight returns-else-straight)

@@ -9,64 +9,64 @@ use Rattle.butterfly.specs.laws.Tables.{HasSteps}
 use Rattle.butterfly.proofs.wings.is_butterfly.Statement.{statement}
 use Rattle.butterfly.proofs.wings.is_butterfly.Tie as tie
 
-steps : (c : tie.Else2) → HasSteps c.before.before.before.before.before.args.states
-steps c = c.before.has-steps.ensures (not-false _ c.if2.false)
+steps : (c : tie.Else-not-has_steps) → HasSteps c.args.states
+steps c = c.has_steps.ensures (not-false _ c.if-not-has_steps.false-raw)
+
+returns-then-outputs-ne2 : tie.Need-returns-then-outputs-ne2
+returns-then-outputs-ne2 c e = absurd (false≢true e)
+
+has_steps-requires : tie.Need-has_steps-requires
+has_steps-requires c κs = search rules
+
+returns-then-not-has_steps : tie.Need-returns-then-not-has_steps
+returns-then-not-has_steps c e = absurd (false≢true e)
+
+overflow_mul-states : tie.Need-overflow_mul-states
+overflow_mul-states c = let few = (steps c).few in omega arith
+
+returns-then-next-states : tie.Need-returns-then-next-states
+returns-then-next-states c e = absurd (false≢true e)
+
+overflow_mul-states-2 : tie.Need-overflow_mul-states-2
+overflow_mul-states-2 c = search rules
+
+returns-then-words-states : tie.Need-returns-then-words-states
+returns-then-words-states c e = absurd (false≢true e)
+
+is_systematic-requires : tie.Need-is_systematic-requires
+is_systematic-requires c κs = search rules
+
+returns-then-not-is_systematic : tie.Need-returns-then-not-is_systematic
+returns-then-not-is_systematic c e = absurd (false≢true e)
+
+are_wings-requires : tie.Need-are_wings-requires
+are_wings-requires c κs = let s = steps c.before.before.before.before in (s.few, (omega arith, omega arith))
 
 returns : tie.Need-returns
-returns c e = absurd (false≢true e)
-
-has-steps-requires : tie.Need-has-steps-requires
-has-steps-requires c κs = search rules
-
-returns-2 : tie.Need-returns-2
-returns-2 c e = absurd (false≢true e)
-
-mul-if3 : tie.Need-overflow-mul-if3
-mul-if3 c = let few = (steps c).few in omega arith
-
-returns-3 : tie.Need-returns-3
-returns-3 c e = absurd (false≢true e)
-
-mul-if4 : tie.Need-overflow-mul-if4
-mul-if4 c = search rules
-
-returns-4 : tie.Need-returns-4
-returns-4 c e = absurd (false≢true e)
-
-is-systematic-requires : tie.Need-is-systematic-requires
-is-systematic-requires c κs = search rules
-
-returns-5 : tie.Need-returns-5
-returns-5 c e = absurd (false≢true e)
-
-are-wings-requires : tie.Need-are-wings-requires
-are-wings-requires c κs = let s = steps c.before.before.before.before in (s.few, (omega arith, omega arith))
-
-returns-6 : tie.Need-returns-6
-returns-6 c e =
+returns c e =
     let words = c.before.before.before in
     let next = words.before in
     record {
-      two_outputs = next.before.before.before.if1.false;
+      two_outputs = next.if-outputs-ne2.false;
       steps = steps next.before;
-      next_long = next.if3.false;
-      words_long = words.if4.false;
-      is_wing = c.are-wings.ensures e;
-      is_systematic = sym c.before.before.is_systematic.ensures ∙ not-false _ c.before.if5.false;
+      next_long = next.if-next-states.false;
+      words_long = words.if-words-states.false;
+      is_wing = c.are_wings.ensures e;
+      is_systematic = sym c.is_systematic.ensures ∙ not-false _ c.if-not-is_systematic.false-raw;
     }
 
-pub is-butterfly-spec : {M : Type 1} → statement M
-is-butterfly-spec =
+pub is_butterfly_spec : {M : Type 1} → statement M
+is_butterfly_spec =
     tie.close
     (tie.spec
-    returns
-    has-steps-requires
-    returns-2
-    mul-if3
-    returns-3
-    mul-if4
-    returns-4
-    is-systematic-requires
-    returns-5
-    are-wings-requires
-    returns-6)
+    returns-then-outputs-ne2
+    has_steps-requires
+    returns-then-not-has_steps
+    overflow_mul-states
+    returns-then-next-states
+    overflow_mul-states-2
+    returns-then-words-states
+    is_systematic-requires
+    returns-then-not-is_systematic
+    are_wings-requires
+    returns)

@@ -6,85 +6,85 @@ use borrow.Author.Tests.{not-false}
 use Rattle.butterfly.proofs.wings.is_wing.Statement.{statement}
 use Rattle.butterfly.proofs.wings.is_wing.Tie as tie
 
-mul-near : tie.Need-overflow-mul-near
-mul-near c = search rules
+overflow_mul-near : tie.Need-overflow_mul-near
+overflow_mul-near c = search rules
 
-add-far : tie.Need-overflow-add-far
-add-far c = search rules
+overflow_add-far : tie.Need-overflow_add-far
+overflow_add-far c = search rules
 
-mul-far : tie.Need-overflow-mul-far
-mul-far c = search rules
+overflow_mul-far : tie.Need-overflow_mul-far
+overflow_mul-far c = search rules
 
-shared-slice-read-are-crosswise : tie.Need-shared-slice-read-are-crosswise
-shared-slice-read-are-crosswise c = search rules
+bounds-next-near : tie.Need-bounds-next-near
+bounds-next-near c = search rules
 
-add-are-crosswise : tie.Need-overflow-add-are-crosswise
-add-are-crosswise c = search rules
+overflow_add-near : tie.Need-overflow_add-near
+overflow_add-near c = search rules
 
-shared-slice-read-are-crosswise-2 : tie.Need-shared-slice-read-are-crosswise-2
-shared-slice-read-are-crosswise-2 c = search rules
+bounds-next-near-2 : tie.Need-bounds-next-near-2
+bounds-next-near-2 c = search rules
 
-shared-slice-read-are-crosswise-3 : tie.Need-shared-slice-read-are-crosswise-3
-shared-slice-read-are-crosswise-3 c = search rules
+bounds-next-far : tie.Need-bounds-next-far
+bounds-next-far c = search rules
 
-add-are-crosswise-2 : tie.Need-overflow-add-are-crosswise-2
-add-are-crosswise-2 c = search rules
+overflow_add-far-2 : tie.Need-overflow_add-far-2
+overflow_add-far-2 c = search rules
 
-shared-slice-read-are-crosswise-4 : tie.Need-shared-slice-read-are-crosswise-4
-shared-slice-read-are-crosswise-4 c = search rules
+bounds-next-far-2 : tie.Need-bounds-next-far-2
+bounds-next-far-2 c = search rules
 
-are-crosswise-requires : tie.Need-are-crosswise-requires
-are-crosswise-requires c κs = search rules
+are_crosswise-requires : tie.Need-are_crosswise-requires
+are_crosswise-requires c κs = search rules
+
+returns-then-not-are_crosswise : tie.Need-returns-then-not-are_crosswise
+returns-then-not-are_crosswise c e = absurd (false≢true e)
+
+bounds-words-near : tie.Need-bounds-words-near
+bounds-words-near c = search rules
+
+overflow_add-near-2 : tie.Need-overflow_add-near-2
+overflow_add-near-2 c = search rules
+
+bounds-words-near-2 : tie.Need-bounds-words-near-2
+bounds-words-near-2 c = search rules
+
+bounds-words-far : tie.Need-bounds-words-far
+bounds-words-far c = search rules
+
+overflow_add-far-3 : tie.Need-overflow_add-far-3
+overflow_add-far-3 c = search rules
+
+bounds-words-far-2 : tie.Need-bounds-words-far-2
+bounds-words-far-2 c = search rules
+
+are_opposite-requires : tie.Need-are_opposite-requires
+are_opposite-requires c κs = search rules
 
 returns : tie.Need-returns
-returns c e = absurd (false≢true e)
-
-shared-slice-read-are-opposite : tie.Need-shared-slice-read-are-opposite
-shared-slice-read-are-opposite c = search rules
-
-add-are-opposite : tie.Need-overflow-add-are-opposite
-add-are-opposite c = search rules
-
-shared-slice-read-are-opposite-2 : tie.Need-shared-slice-read-are-opposite-2
-shared-slice-read-are-opposite-2 c = search rules
-
-shared-slice-read-are-opposite-3 : tie.Need-shared-slice-read-are-opposite-3
-shared-slice-read-are-opposite-3 c = search rules
-
-add-are-opposite-2 : tie.Need-overflow-add-are-opposite-2
-add-are-opposite-2 c = search rules
-
-shared-slice-read-are-opposite-4 : tie.Need-shared-slice-read-are-opposite-4
-shared-slice-read-are-opposite-4 c = search rules
-
-are-opposite-requires : tie.Need-are-opposite-requires
-are-opposite-requires c κs = search rules
-
-returns-2 : tie.Need-returns-2
-returns-2 c e =
+returns c e =
     let told = c.before.before.before.before.before in
-    record { leads = told.before.are-crosswise.ensures (not-false _ told.if1.false); has = c.are-opposite.ensures e }
+    record { leads = told.are_crosswise.ensures (not-false _ told.if-not-are_crosswise.false-raw); has = c.are_opposite.ensures e }
 
-pub is-wing-spec : {M : Type 1} → statement M
-is-wing-spec =
+pub is_wing_spec : {M : Type 1} → statement M
+is_wing_spec =
     tie.close
     (tie.spec
-    mul-near
-    add-far
-    mul-far
-    shared-slice-read-are-crosswise
-    add-are-crosswise
-    shared-slice-read-are-crosswise-2
-    shared-slice-read-are-crosswise-3
-    add-are-crosswise-2
-    shared-slice-read-are-crosswise-4
-    are-crosswise-requires
-    returns
-    shared-slice-read-are-opposite
-    add-are-opposite
-    shared-slice-read-are-opposite-2
-    shared-slice-read-are-opposite-3
-    add-are-opposite-2
-    shared-slice-read-are-opposite-4
-    are-opposite-requires
-    returns-2)
+    overflow_mul-near
+    overflow_add-far
+    overflow_mul-far
+    bounds-next-near
+    overflow_add-near
+    bounds-next-near-2
+    bounds-next-far
+    overflow_add-far-2
+    bounds-next-far-2
+    are_crosswise-requires
+    returns-then-not-are_crosswise
+    bounds-words-near
+    overflow_add-near-2
+    bounds-words-near-2
+    bounds-words-far
+    overflow_add-far-3
+    bounds-words-far-2
+    are_opposite-requires
+    returns)

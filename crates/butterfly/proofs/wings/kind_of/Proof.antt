@@ -16,25 +16,25 @@ module _ (c : tie.Start) where
   known house gpp is-house is-gpp =
       record { few = c.requires.0; signed_by = c.requires.1.1; house_is = is-house; gpp_is = is-gpp; else_eight = c.requires.1.0 }
 
-are-same-requires : tie.Need-are-same-requires
-are-same-requires c κs = search rules
+are_same-requires : tie.Need-are_same-requires
+are_same-requires c κs = search rules
+
+returns-then-half-eq2 : tie.Need-returns-then-half-eq2
+returns-then-half-eq2 c =
+    let two = c.before.before in
+    (known two.before _ _ (λ e. (two.if-half-eq2.true, c.are_same.ensures e)) (λ e. absurd (false≢true e)), refl)
+
+are_same-requires-then-half-eq4 : tie.Need-are_same-requires-then-half-eq4
+are_same-requires-then-half-eq4 c κs = search rules
+
+returns-then-half-eq4 : tie.Need-returns-then-half-eq4
+returns-then-half-eq4 c =
+    let four = c.before.before in
+    (known four.before.before _ _ (λ e. absurd (false≢true e)) (λ e. (four.if-half-eq4.true, c.are_same-then-half-eq4.ensures e)), refl)
 
 returns : tie.Need-returns
-returns c =
-    let two = c.before.before in
-    (known two.before _ _ (λ e. (two.if1.true, c.are-same.ensures e)) (λ e. absurd (false≢true e)), refl)
+returns c = (known c.before.before _ _ (λ e. absurd (false≢true e)) (λ e. absurd (false≢true e)), refl)
 
-are-same-requires-2 : tie.Need-are-same-requires-2
-are-same-requires-2 c κs = search rules
-
-returns-2 : tie.Need-returns-2
-returns-2 c =
-    let four = c.before.before in
-    (known four.before.before _ _ (λ e. absurd (false≢true e)) (λ e. (four.if2.true, c.are-same2.ensures e)), refl)
-
-returns-3 : tie.Need-returns-3
-returns-3 c = (known c.before.before _ _ (λ e. absurd (false≢true e)) (λ e. absurd (false≢true e)), refl)
-
-pub kind-of-spec : {M : Type 1} → statement M
-kind-of-spec =
-    tie.close (tie.spec are-same-requires returns are-same-requires-2 returns-2 returns-3)
+pub kind_of_spec : {M : Type 1} → statement M
+kind_of_spec =
+    tie.close (tie.spec are_same-requires returns-then-half-eq2 are_same-requires-then-half-eq4 returns-then-half-eq4 returns)

@@ -3,11 +3,11 @@
 use Rattle.butterfly.proofs.wings.sign_of.Statement.{statement}
 use Rattle.butterfly.proofs.wings.sign_of.Tie as tie
 
-returns : tie.Need-returns
-returns c = rw c.if1.true
+returns-then-zero : tie.Need-returns-then-zero
+returns-then-zero c = rw c.if-zero.true
 
-returns-2 : tie.Need-returns-2
-returns-2 c = rw c.if1.false
+returns-else-zero : tie.Need-returns-else-zero
+returns-else-zero c = rw c.if-zero.false
 
-pub sign-of-spec : {M : Type 1} → statement M
-sign-of-spec = tie.close (tie.spec returns returns-2)
+pub sign_of_spec : {M : Type 1} → statement M
+sign_of_spec = tie.close (tie.spec returns-then-zero returns-else-zero)

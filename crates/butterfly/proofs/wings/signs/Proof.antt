@@ -12,6 +12,7 @@ use mir.Facts.{to_z-of_z}
 use borrow.Author.Rules.{rules}
 use Rattle.integers.specs.laws.Linear.{fits_of}
 use Rattle.lists.specs.laws.Stores.{filled_more}
+use mir.Syntax.{w32}
 use Rattle.butterfly.specs.laws.Tables.{sign_of, input_sign, parity_sign, AreSigns}
 use Rattle.butterfly.proofs.wings.signs.Statement.{statement}
 use Rattle.butterfly.proofs.wings.signs.Tie as tie
@@ -36,112 +37,112 @@ signs-more {next} {words} {i} {all} {a} {b} sixteen few a-is b-is are = record {
           ∙ are.parity j (omega arith)
     ]
 
-abbrev invariant-loop : tie.invariant-loop
+abbrev invariant-loop : tie.invariant-loop-i
 invariant-loop half next words all₀ i₀ all i = (i ≤ half) × (length all ≡ 16) × AreSigns next words i all
 
-abbrev decreases-loop : tie.decreases-loop
+abbrev decreases-loop : tie.decreases-loop-i
 decreases-loop half next words all₀ i₀ all i = half - i
 
-loop-holds : tie.Need-loop-init invariant-loop decreases-loop
-loop-holds c = (omega arith, refl, record { input = λ i l. absurd (omega arith); parity = λ i l. absurd (omega arith) })
+loop-i-init : tie.Need-loop-i-init invariant-loop decreases-loop
+loop-i-init c = (omega arith, refl, record { input = λ i l. absurd (omega arith); parity = λ i l. absurd (omega arith) })
 
-mul-is-straight : tie.Need-overflow-mul-is-straight invariant-loop decreases-loop
-mul-is-straight c = search rules
+overflow_mul-i : tie.Need-overflow_mul-i invariant-loop decreases-loop
+overflow_mul-i c = search rules
 
-shared-slice-read-is-straight : tie.Need-shared-slice-read-is-straight invariant-loop decreases-loop
-shared-slice-read-is-straight c = search rules
+bounds-next-i : tie.Need-bounds-next-i invariant-loop decreases-loop
+bounds-next-i c = search rules
 
-is-straight-requires : tie.Need-is-straight-requires invariant-loop decreases-loop
-is-straight-requires c κs = search rules
+is_straight-straight-requires : tie.Need-is_straight-straight-requires invariant-loop decreases-loop
+is_straight-straight-requires c κs = search rules
 
-mul-has-zero-parity : tie.Need-overflow-mul-has-zero-parity invariant-loop decreases-loop
-mul-has-zero-parity c = search rules
+overflow_mul-i-in-loop-i : tie.Need-overflow_mul-i-in-loop-i invariant-loop decreases-loop
+overflow_mul-i-in-loop-i c = search rules
 
-shared-slice-read-has-zero-parity : tie.Need-shared-slice-read-has-zero-parity invariant-loop decreases-loop
-shared-slice-read-has-zero-parity c = search rules
+bounds-words-i : tie.Need-bounds-words-i invariant-loop decreases-loop
+bounds-words-i c = search rules
 
-mul-has-zero-parity-2 : tie.Need-overflow-mul-has-zero-parity-2 invariant-loop decreases-loop
-mul-has-zero-parity-2 c = search rules
+overflow_mul-i-in-loop-i-2 : tie.Need-overflow_mul-i-in-loop-i-2 invariant-loop decreases-loop
+overflow_mul-i-in-loop-i-2 c = search rules
 
-add-has-zero-parity : tie.Need-overflow-add-has-zero-parity invariant-loop decreases-loop
-add-has-zero-parity c = search rules
+overflow_add-i : tie.Need-overflow_add-i invariant-loop decreases-loop
+overflow_add-i c = search rules
 
-shared-slice-read-has-zero-parity-2 : tie.Need-shared-slice-read-has-zero-parity-2 invariant-loop decreases-loop
-shared-slice-read-has-zero-parity-2 c = search rules
+bounds-words-i-in-loop-i : tie.Need-bounds-words-i-in-loop-i invariant-loop decreases-loop
+bounds-words-i-in-loop-i c = search rules
 
-has-zero-parity-requires : tie.Need-has-zero-parity-requires invariant-loop decreases-loop
-has-zero-parity-requires c κs = search rules
+has_zero_parity-parity-requires : tie.Need-has_zero_parity-parity-requires invariant-loop decreases-loop
+has_zero_parity-parity-requires c κs = search rules
 
-sign-of-requires : tie.Need-sign-of-requires invariant-loop decreases-loop
-sign-of-requires c κs = search rules
+sign_of-requires : tie.Need-sign_of-requires invariant-loop decreases-loop
+sign_of-requires c κs = search rules
 
-mul-all : tie.Need-overflow-mul-all invariant-loop decreases-loop
-mul-all c = search rules
+offset_bounds-all-i : tie.Need-offset_bounds-all-i invariant-loop decreases-loop
+offset_bounds-all-i c = search rules
 
-array-set-from-all : tie.Need-array-set-from-all invariant-loop decreases-loop
-array-set-from-all c = search rules
+bounds-all-i : tie.Need-bounds-all-i invariant-loop decreases-loop
+bounds-all-i c = search rules
 
-sign-of-requires-2 : tie.Need-sign-of-requires-2 invariant-loop decreases-loop
-sign-of-requires-2 c κs = search rules
+sign_of-requires-in-loop-i : tie.Need-sign_of-requires-in-loop-i invariant-loop decreases-loop
+sign_of-requires-in-loop-i c κs = search rules
 
-add-all : tie.Need-overflow-add-all invariant-loop decreases-loop
-add-all c = search rules
+overflow_add-all : tie.Need-overflow_add-all invariant-loop decreases-loop
+overflow_add-all c = search rules
 
-mul-all-2 : tie.Need-overflow-mul-all-2 invariant-loop decreases-loop
-mul-all-2 c = search rules
+offset_bounds-all-i-in-loop-i : tie.Need-offset_bounds-all-i-in-loop-i invariant-loop decreases-loop
+offset_bounds-all-i-in-loop-i c = search rules
 
-array-set-from-all-2 : tie.Need-array-set-from-all-2 invariant-loop decreases-loop
-array-set-from-all-2 c = search rules
+bounds-all-i-in-loop-i : tie.Need-bounds-all-i-in-loop-i invariant-loop decreases-loop
+bounds-all-i-in-loop-i c = search rules
 
-add-i : tie.Need-overflow-add-i invariant-loop decreases-loop
-add-i c = search rules
+overflow_add-i-in-loop-i : tie.Need-overflow_add-i-in-loop-i invariant-loop decreases-loop
+overflow_add-i-in-loop-i c = search rules
 
-loop-less : tie.Need-loop-smaller invariant-loop decreases-loop
-loop-less c = search rules
+loop-i-smaller : tie.Need-loop-i-smaller invariant-loop decreases-loop
+loop-i-smaller c = search rules
 
-loop-again : tie.Need-loop-preserved invariant-loop decreases-loop
-loop-again c =
+loop-i-preserved : tie.Need-loop-i-preserved invariant-loop decreases-loop
+loop-i-preserved c =
     let input = c.before in
     let parity = input.before in
-    let straight = parity.before.before.before.is-straight.ensures in
-    let inv = c.before.before.before.before.before.before.before.before.loop.invariant in (
+    let straight = parity.is_straight-straight.ensures in
+    let inv = c.loop-i.invariant in (
       omega arith,
       simp length-set inv.1,
       signs-more
           inv.1
           (omega arith)
-          (to_z-of_z (fits_of input.sign_of.type-inv) ∙ input.sign_of.ensures ∙ ap sign_of straight)
-          (to_z-of_z (fits_of c.sign-of2.type-inv) ∙ c.sign-of2.ensures ∙ ap sign_of (rw straight at parity.has-zero-parity.ensures))
+          (to_z-of_z {w = w32} (fits_of input.sign_of.type_inv) ∙ input.sign_of.ensures ∙ ap sign_of straight)
+          (to_z-of_z {w = w32} (fits_of c.sign_of-in-loop-i.type_inv) ∙ c.sign_of-in-loop-i.ensures ∙ ap sign_of (rw straight at parity.has_zero_parity-parity.ensures))
           inv.2,
     )
 
 returns : tie.Need-returns invariant-loop decreases-loop
-returns c = let e : c.before.loop.i ≡ c.before.before.before.before.args.half = omega arith in rw e at c.before.loop.invariant.2
+returns c = let e : c.loop-i.i ≡ c.args.half = omega arith in rw e at c.loop-i.invariant.2
 
-pub signs-spec : {M : Type 1} → statement M
-signs-spec =
+pub signs_spec : {M : Type 1} → statement M
+signs_spec =
     tie.close
     (tie.spec
     invariant-loop
     decreases-loop
-    loop-holds
-    mul-is-straight
-    shared-slice-read-is-straight
-    is-straight-requires
-    mul-has-zero-parity
-    shared-slice-read-has-zero-parity
-    mul-has-zero-parity-2
-    add-has-zero-parity
-    shared-slice-read-has-zero-parity-2
-    has-zero-parity-requires
-    sign-of-requires
-    mul-all
-    array-set-from-all
-    sign-of-requires-2
-    add-all
-    mul-all-2
-    array-set-from-all-2
-    add-i
-    loop-less
-    loop-again
+    loop-i-init
+    overflow_mul-i
+    bounds-next-i
+    is_straight-straight-requires
+    overflow_mul-i-in-loop-i
+    bounds-words-i
+    overflow_mul-i-in-loop-i-2
+    overflow_add-i
+    bounds-words-i-in-loop-i
+    has_zero_parity-parity-requires
+    sign_of-requires
+    offset_bounds-all-i
+    bounds-all-i
+    sign_of-requires-in-loop-i
+    overflow_add-all
+    offset_bounds-all-i-in-loop-i
+    bounds-all-i-in-loop-i
+    overflow_add-i-in-loop-i
+    loop-i-smaller
+    loop-i-preserved
     returns)
