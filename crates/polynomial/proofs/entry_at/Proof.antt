@@ -20,23 +20,23 @@ module _ (c : tie.Start) where
   index : c.args.i < 4096
   index = omega arith
 
-mul-result : tie.Need-overflow-mul-result
-mul-result c = omega (arith, linear_small (first c) (index c))
+overflow_mul-result : tie.Need-overflow_mul-result
+overflow_mul-result c = omega (arith, linear_small (first c) (index c))
 
-mul-result-2 : tie.Need-overflow-mul-result-2
-mul-result-2 c = omega (arith, linear_small (second c) (index c))
+overflow_mul-result-2 : tie.Need-overflow_mul-result-2
+overflow_mul-result-2 c = omega (arith, linear_small (second c) (index c))
 
-mul-result-3 : tie.Need-overflow-mul-result-3
-mul-result-3 c = omega (arith, linear_small (second c) (index c), square_small (second c) (index c))
+overflow_mul-result-3 : tie.Need-overflow_mul-result-3
+overflow_mul-result-3 c = omega (arith, linear_small (second c) (index c), square_small (second c) (index c))
 
-add-result : tie.Need-overflow-add-result
-add-result c = omega (arith, linear_small (first c) (index c), linear_small (second c) (index c), square_small (second c) (index c))
+overflow_add-result : tie.Need-overflow_add-result
+overflow_add-result c = omega (arith, linear_small (first c) (index c), linear_small (second c) (index c), square_small (second c) (index c))
 
-rem-result : tie.Need-nonzero-rem-result
-rem-result c = omega arith
+nonzero_rem-result : tie.Need-nonzero_rem-result
+nonzero_rem-result c = omega arith
 
-cast-result : tie.Need-overflow-cast-result
-cast-result c =
+overflow_cast-result : tie.Need-overflow_cast-result
+overflow_cast-result c =
     let some : 0 < c.args.bits = omega arith in
     let few : c.args.bits ≤ 2 ^ 32 = omega arith in
     record { fits = lt_of_lt_of_le (mod-lt _ some) few }
@@ -45,7 +45,7 @@ returns : tie.Need-returns
 unfolding entry_at
 returns c = ap (λ (x : ℕ). (c.args.f1 * c.args.i + x) % c.args.bits) (squared c.args.f2 c.args.i)
 
-pub entry-at-spec : {M : Type 1} → statement M
-entry-at-spec =
+pub entry_at_spec : {M : Type 1} → statement M
+entry_at_spec =
     tie.close
-    (tie.spec mul-result mul-result-2 mul-result-3 add-result rem-result cast-result returns)
+    (tie.spec overflow_mul-result overflow_mul-result-2 overflow_mul-result-3 overflow_add-result nonzero_rem-result overflow_cast-result returns)

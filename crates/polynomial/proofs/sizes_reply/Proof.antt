@@ -7,26 +7,26 @@ use Rattle.polynomial.specs.Polynomial.{bits_fit, size_checks}
 use Rattle.polynomial.proofs.sizes_reply.Statement.{statement}
 use Rattle.polynomial.proofs.sizes_reply.Tie as tie
 
-coefficients-fit-requires : tie.Need-coefficients-fit-requires
-coefficients-fit-requires c κs = search rules
+coefficients_fit-requires : tie.Need-coefficients_fit-requires
+coefficients_fit-requires c κs = search rules
 
-check-requires : tie.Need-check-requires
-check-requires c κs = search rules
+check-coefficients-requires : tie.Need-check-coefficients-requires
+check-coefficients-requires c κs = search rules
 
-sizes-fit-requires : tie.Need-sizes-fit-requires
-sizes-fit-requires c κs = search rules
+sizes_fit-requires : tie.Need-sizes_fit-requires
+sizes_fit-requires c κs = search rules
 
-check-requires-2 : tie.Need-check-requires-2
-check-requires-2 c κs = search rules
+check-bits_reply-requires : tie.Need-check-bits_reply-requires
+check-bits_reply-requires c κs = search rules
 
-check-requires-3 : tie.Need-check-requires-3
-check-requires-3 c κs = search rules
+check-list-requires : tie.Need-check-list-requires
+check-list-requires c κs = search rules
 
-first-of-requires : tie.Need-first-of-requires
-first-of-requires c κs = search rules
+first_of-requires : tie.Need-first_of-requires
+first_of-requires c κs = search rules
 
-first-of-requires-2 : tie.Need-first-of-requires-2
-first-of-requires-2 c κs = search rules
+first_of-requires-2 : tie.Need-first_of-requires-2
+first_of-requires-2 c κs = search rules
 
 returns : tie.Need-returns
 unfolding size_checks bits_fit first_of
@@ -35,25 +35,25 @@ returns c =
     let bits = list.before in
     let coefficients = bits.before.before in
     rw (
-      c.first-of2.ensures,
-      c.before.first_of_lem.ensures,
-      list.check3.ensures,
-      bits.check2.ensures,
-      bits.before.sizes_fit_lem.ensures,
-      coefficients.check.ensures,
-      coefficients.before.coefficients-fit.ensures,
+      c.first_of-2.ensures,
+      c.first_of.ensures,
+      list.check-list.ensures,
+      bits.check-bits_reply.ensures,
+      bits.sizes_fit.ensures,
+      coefficients.check-coefficients.ensures,
+      coefficients.coefficients_fit.ensures,
     )
     (simp then_done)
 
-pub sizes-reply-spec : {M : Type 1} → statement M
-sizes-reply-spec =
+pub sizes_reply_spec : {M : Type 1} → statement M
+sizes_reply_spec =
     tie.close
     (tie.spec
-    coefficients-fit-requires
-    check-requires
-    sizes-fit-requires
-    check-requires-2
-    check-requires-3
-    first-of-requires
-    first-of-requires-2
+    coefficients_fit-requires
+    check-coefficients-requires
+    sizes_fit-requires
+    check-bits_reply-requires
+    check-list-requires
+    first_of-requires
+    first_of-requires-2
     returns)

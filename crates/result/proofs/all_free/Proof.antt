@@ -13,43 +13,43 @@ use borrow.Author.Rules.{rules}
 use Rattle.result.proofs.all_free.Statement.{statement}
 use Rattle.result.proofs.all_free.Tie as tie
 
-abbrev invariant-loop : tie.invariant-loop
+abbrev invariant-loop : tie.invariant-loop-i
 invariant-loop marks i₀ i = (i ≤ length marks) × ((k : ℕ) → k < i → eqb (get_or marks k 0) 2 ≡ true)
 
-abbrev decreases-loop : tie.decreases-loop
+abbrev decreases-loop : tie.decreases-loop-i
 decreases-loop marks i₀ i = length marks - i
 
-loop-holds : tie.Need-loop-init invariant-loop decreases-loop
-loop-holds c = (search rules, λ k h. absurd (omega arith))
+loop-i-init : tie.Need-loop-i-init invariant-loop decreases-loop
+loop-i-init c = (search rules, λ k h. absurd (omega arith))
 
-shared-slice-read-if1 : tie.Need-shared-slice-read-if1 invariant-loop decreases-loop
-shared-slice-read-if1 c = search rules
+bounds-marks-i : tie.Need-bounds-marks-i invariant-loop decreases-loop
+bounds-marks-i c = search rules
+
+returns-then-marks-i-ne2 : tie.Need-returns-then-marks-i-ne2 invariant-loop decreases-loop
+returns-then-marks-i-ne2 c = sym (every_not _ 0 _ _ (ne_eqb _ _ c.if-marks-i-ne2.true) c.before.before.loop-i-test.true)
+
+overflow_add-i : tie.Need-overflow_add-i invariant-loop decreases-loop
+overflow_add-i c = search rules
+
+loop-i-smaller : tie.Need-loop-i-smaller invariant-loop decreases-loop
+loop-i-smaller c = search rules
+
+loop-i-preserved : tie.Need-loop-i-preserved invariant-loop decreases-loop
+loop-i-preserved c = (omega arith, below_more _ _ c.before.before.before.loop-i.invariant.1 (eq-eqb _ _ c.if-marks-i-ne2.false))
 
 returns : tie.Need-returns invariant-loop decreases-loop
-returns c = sym (every_not _ 0 _ _ (ne_eqb _ _ c.if1.true) c.before.before.loop-test.true)
+returns c = sym (at_every _ 0 _ (λ k h. c.before.loop-i.invariant.1 k (omega arith)))
 
-add-i : tie.Need-overflow-add-i invariant-loop decreases-loop
-add-i c = search rules
-
-loop-less : tie.Need-loop-smaller invariant-loop decreases-loop
-loop-less c = search rules
-
-loop-again : tie.Need-loop-preserved invariant-loop decreases-loop
-loop-again c = (omega arith, below_more _ _ c.before.before.before.loop.invariant.1 (eq-eqb _ _ c.if1.false))
-
-returns-2 : tie.Need-returns-2 invariant-loop decreases-loop
-returns-2 c = sym (at_every _ 0 _ (λ k h. c.before.loop.invariant.1 k (omega arith)))
-
-pub all-free-spec : {M : Type 1} → statement M
-all-free-spec =
+pub all_free_spec : {M : Type 1} → statement M
+all_free_spec =
     tie.close
     (tie.spec
     invariant-loop
     decreases-loop
-    loop-holds
-    shared-slice-read-if1
-    returns
-    add-i
-    loop-less
-    loop-again
-    returns-2)
+    loop-i-init
+    bounds-marks-i
+    returns-then-marks-i-ne2
+    overflow_add-i
+    loop-i-smaller
+    loop-i-preserved
+    returns)

@@ -6,83 +6,84 @@ use native.Mathlib.Omega.{arith}
 use lib.IntN.{pos}
 use lib.ListN.{length, get_or, length-set}
 use mir.Facts.{to_z-of_z}
+use mir.Syntax.{w32}
 use Rattle.integers.specs.laws.Linear.{fits_of}
 use borrow.Author.Rules.{rules}
 use Rattle.frame.specs.laws.Interleaving.{Placed, placed_none, placed_more, placed_all}
 use Rattle.result.proofs.deinterleave_soft.Statement.{statement}
 use Rattle.result.proofs.deinterleave_soft.Tie as tie
 
-abbrev invariant-loop : tie.invariant-loop
+abbrev invariant-loop : tie.invariant-loop-i
 invariant-loop pattern xs out₀ i₀ out i = (i ≤ length pattern) × (length out ≡ length out₀) × Placed (pos 0) pattern xs out i
 
-abbrev decreases-loop : tie.decreases-loop
+abbrev decreases-loop : tie.decreases-loop-i
 decreases-loop pattern xs out₀ i₀ out i = length pattern - i
 
 -- an entry of the pattern is an index of the lists
-entry-below : (c : tie.In-loop invariant-loop decreases-loop) → get_or c.before.before.args.pattern.now c.before.loop.i 0 < length c.before.before.args.pattern.now
-entry-below c = c.before.before.requires.0.below c.before.loop.i c.loop-test.true
+entry-below : (c : tie.In-loop-i invariant-loop decreases-loop) → get_or c.before.before.args.pattern.now c.before.loop-i.i 0 < length c.before.before.args.pattern.now
+entry-below c = c.before.before.requires.0.below c.before.loop-i.i c.loop-i-test.true
 
-loop-holds : tie.Need-loop-init invariant-loop decreases-loop
-loop-holds c = (search rules, refl, placed_none _)
+loop-i-init : tie.Need-loop-i-init invariant-loop decreases-loop
+loop-i-init c = (search rules, refl, placed_none _)
 
-mul-to : tie.Need-overflow-mul-to invariant-loop decreases-loop
-mul-to c = search rules
+offset_bounds-pattern-i : tie.Need-offset_bounds-pattern-i invariant-loop decreases-loop
+offset_bounds-pattern-i c = search rules
 
-shared-slice-read-to : tie.Need-shared-slice-read-to invariant-loop decreases-loop
-shared-slice-read-to c = search rules
+bounds-pattern-i : tie.Need-bounds-pattern-i invariant-loop decreases-loop
+bounds-pattern-i c = search rules
 
-cast-to : tie.Need-overflow-cast-to invariant-loop decreases-loop
-cast-to c = omega (arith, c.shared-slice-known.given c.before.before.loop.i)
+overflow_cast-to : tie.Need-overflow_cast-to invariant-loop decreases-loop
+overflow_cast-to c = omega (arith, c.shared_slice_known-1.given c.before.before.loop-i.i)
 
-mul-out : tie.Need-overflow-mul-out invariant-loop decreases-loop
-mul-out c = omega (arith, entry-below c.before)
+offset_bounds-xs-i : tie.Need-offset_bounds-xs-i invariant-loop decreases-loop
+offset_bounds-xs-i c = omega (arith, entry-below c.before)
 
-shared-slice-copy-out-out : tie.Need-shared-slice-copy-out-out invariant-loop decreases-loop
-shared-slice-copy-out-out c = omega (arith, entry-below c.before)
+bounds-xs-i : tie.Need-bounds-xs-i invariant-loop decreases-loop
+bounds-xs-i c = omega (arith, entry-below c.before)
 
-mul-t12 : tie.Need-overflow-mul-t12 invariant-loop decreases-loop
-mul-t12 c = omega (arith, entry-below c.before.before)
+offset_bounds-out-to : tie.Need-offset_bounds-out-to invariant-loop decreases-loop
+offset_bounds-out-to c = omega (arith, entry-below c.before.before)
 
-slice-set-from-out : tie.Need-slice-set-from-out invariant-loop decreases-loop
-slice-set-from-out c = omega (arith, entry-below c.before.before)
+bounds-out-to : tie.Need-bounds-out-to invariant-loop decreases-loop
+bounds-out-to c = omega (arith, entry-below c.before.before)
 
-add-i : tie.Need-overflow-add-i invariant-loop decreases-loop
-add-i c = search rules
+overflow_add-i : tie.Need-overflow_add-i invariant-loop decreases-loop
+overflow_add-i c = search rules
 
-loop-less : tie.Need-loop-smaller invariant-loop decreases-loop
-loop-less c = search rules
+loop-i-smaller : tie.Need-loop-i-smaller invariant-loop decreases-loop
+loop-i-smaller c = search rules
 
-loop-again : tie.Need-loop-preserved invariant-loop decreases-loop
-loop-again c =
-    let inv = c.before.before.before.loop.invariant in
-    (omega arith, simp length-set inv.1, placed_more c.before.before.before.before.requires.0 (inv.1 ∙ c.before.before.before.before.requires.1.1) c.before.before.loop-test.true (to_z-of_z (fits_of c.out.given)) inv.2)
+loop-i-preserved : tie.Need-loop-i-preserved invariant-loop decreases-loop
+loop-i-preserved c =
+    let inv = c.before.before.before.loop-i.invariant in
+    (omega arith, simp length-set inv.1, placed_more c.before.before.before.before.requires.0 (inv.1 ∙ c.before.before.before.before.requires.1.1) c.before.before.loop-i-test.true (to_z-of_z {w = w32} (fits_of c.out-1.given)) inv.2)
 
-same_length : tie.Need-same-length invariant-loop decreases-loop
-same_length c = search rules
+shape_of-out : tie.Need-shape_of-out invariant-loop decreases-loop
+shape_of-out c = search rules
 
 returns : tie.Need-returns invariant-loop decreases-loop
 returns c =
     let start = c.before.before in
-    let loop = c.before.loop in
+    let loop = c.before.loop-i in
     let e : loop.i ≡ length start.args.pattern.now = omega arith in
     placed_all start.requires.0 (loop.invariant.1 ∙ start.requires.1.1) (rw e at loop.invariant.2)
 
-pub deinterleave-soft-spec : {M : Type 1} → statement M
-deinterleave-soft-spec =
+pub deinterleave_soft_spec : {M : Type 1} → statement M
+deinterleave_soft_spec =
     tie.close
     (tie.spec
     invariant-loop
     decreases-loop
-    loop-holds
-    mul-to
-    shared-slice-read-to
-    cast-to
-    mul-out
-    shared-slice-copy-out-out
-    mul-t12
-    slice-set-from-out
-    add-i
-    loop-less
-    loop-again
-    same_length
+    loop-i-init
+    offset_bounds-pattern-i
+    bounds-pattern-i
+    overflow_cast-to
+    offset_bounds-xs-i
+    bounds-xs-i
+    offset_bounds-out-to
+    bounds-out-to
+    overflow_add-i
+    loop-i-smaller
+    loop-i-preserved
+    shape_of-out
     returns)

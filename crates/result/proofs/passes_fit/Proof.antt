@@ -5,17 +5,17 @@ use borrow.Author.Tests.{eq-eqb, ne_eqb}
 use Rattle.result.proofs.passes_fit.Statement.{statement}
 use Rattle.result.proofs.passes_fit.Tie as tie
 
+returns-then-marks1-pattern : tie.Need-returns-then-marks1-pattern
+returns-then-marks1-pattern c = simp (ne_eqb _ _ c.if-marks1-pattern.true)
+
+returns-then-marks2-pattern : tie.Need-returns-then-marks2-pattern
+returns-then-marks2-pattern c = simp (ne_eqb _ _ c.if-marks2-pattern.true, and-false)
+
+returns-then-margins2-pattern : tie.Need-returns-then-margins2-pattern
+returns-then-margins2-pattern c = simp (ne_eqb _ _ c.if-margins2-pattern.true, and-false)
+
 returns : tie.Need-returns
-returns c = simp (ne_eqb _ _ c.if1.true)
+returns c = rw (eq-eqb _ _ c.before.before.if-marks1-pattern.false, eq-eqb _ _ c.before.if-marks2-pattern.false, eq-eqb _ _ c.if-margins2-pattern.false)
 
-returns-2 : tie.Need-returns-2
-returns-2 c = simp (ne_eqb _ _ c.if2.true, and-false)
-
-returns-3 : tie.Need-returns-3
-returns-3 c = simp (ne_eqb _ _ c.if3.true, and-false)
-
-returns-4 : tie.Need-returns-4
-returns-4 c = rw (eq-eqb _ _ c.before.before.if1.false, eq-eqb _ _ c.before.if2.false, eq-eqb _ _ c.if3.false)
-
-pub passes-fit-spec : {M : Type 1} → statement M
-passes-fit-spec = tie.close (tie.spec returns returns-2 returns-3 returns-4)
+pub passes_fit_spec : {M : Type 1} → statement M
+passes_fit_spec = tie.close (tie.spec returns-then-marks1-pattern returns-then-marks2-pattern returns-then-margins2-pattern returns)

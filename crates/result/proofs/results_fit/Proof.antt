@@ -5,14 +5,14 @@ use borrow.Author.Tests.{eq-eqb, ne_eqb}
 use Rattle.result.proofs.results_fit.Statement.{statement}
 use Rattle.result.proofs.results_fit.Tie as tie
 
+returns-then-bits-pattern : tie.Need-returns-then-bits-pattern
+returns-then-bits-pattern c = simp (ne_eqb _ _ c.if-bits-pattern.true)
+
+returns-then-margins-pattern : tie.Need-returns-then-margins-pattern
+returns-then-margins-pattern c = simp (ne_eqb _ _ c.if-margins-pattern.true, and-false)
+
 returns : tie.Need-returns
-returns c = simp (ne_eqb _ _ c.if1.true)
+returns c = rw (eq-eqb _ _ c.before.if-bits-pattern.false, eq-eqb _ _ c.if-margins-pattern.false)
 
-returns-2 : tie.Need-returns-2
-returns-2 c = simp (ne_eqb _ _ c.if2.true, and-false)
-
-returns-3 : tie.Need-returns-3
-returns-3 c = rw (eq-eqb _ _ c.before.if1.false, eq-eqb _ _ c.if2.false)
-
-pub results-fit-spec : {M : Type 1} → statement M
-results-fit-spec = tie.close (tie.spec returns returns-2 returns-3)
+pub results_fit_spec : {M : Type 1} → statement M
+results_fit_spec = tie.close (tie.spec returns-then-bits-pattern returns-then-margins-pattern returns)

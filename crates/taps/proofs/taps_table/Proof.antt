@@ -11,7 +11,7 @@ use Rattle.taps.specs.laws.Filling.{Buildable, buildable, built_refused, built_d
 use Rattle.taps.proofs.taps_table.Statement.{statement}
 use Rattle.taps.proofs.taps_table.Tie as tie
 
-abbrev start : tie.After-taps-reply → tie.Start
+abbrev start : tie.After-taps_reply-reply → tie.Start
 start c = c.before.before.before
 
 abbrev call : tie.Start → TapsCall
@@ -22,43 +22,43 @@ lent c = taps_lent_of c.args.next.now c.args.words.now
 
 -- ---- the checks are done
 
-module _ (c : tie.After-enum-told2) where
+module _ (c : tie.In_default) where
   abbrev entry : tie.Start
-  entry = start c.before.before
+  entry = start c.before
 
   passed : first_of (taps_checks (call entry) (lent entry)) ≡ Done
   unfolding taps_checks
-  passed = sym c.before.before.taps-reply.ensures ∙ c.enum-told2.given.1
+  passed = sym c.taps_reply-reply.ensures ∙ c.in_default.is
 
   fits : Buildable (call entry) (lent entry)
   fits = buildable (call entry) (lent entry) passed
 
-counted : (c : tie.After-word-count) → c.word_count.result ≡ 2 ^ (entry c.before).args.memory
+counted : (c : tie.After-word_count) → c.word_count.result ≡ 2 ^ (entry c.before).args.memory
 counted c = counted_states _ (fits c.before).memory c.word_count.ensures
 
 -- ---- the needs
 
-taps-reply-requires : tie.Need-taps-reply-requires
-taps-reply-requires c κs = search rules
+taps_reply-reply-requires : tie.Need-taps_reply-reply-requires
+taps_reply-reply-requires c κs = search rules
 
-enum_told : tie.Need-enum-told
-enum_told c = search rules
+enum_told-1 : tie.Need-enum_told-1
+enum_told-1 c = search rules
 
-returns : tie.Need-returns
+returns-in-Refused : tie.Need-returns-in-Refused
 unfolding taps_checks
-returns c =
-    let entry = start c.before.before in
-    let told = c.enum_told.given.1 in
-    rw told (built_refused (call entry) (lent entry) _ (sym c.before.before.taps-reply.ensures ∙ told))
+returns-in-Refused c =
+    let entry = start c.before in
+    let told = c.in-Refused.is in
+    rw told (built_refused (call entry) (lent entry) _ (sym c.taps_reply-reply.ensures ∙ told))
 
-enum-told-2 : tie.Need-enum-told-2
-enum-told-2 c = search rules
+enum_told-in_default : tie.Need-enum_told-in_default
+enum_told-in_default c = search rules
 
-word-count-requires : tie.Need-word-count-requires
-word-count-requires c κs = search rules
+word_count-requires : tie.Need-word_count-requires
+word_count-requires c κs = search rules
 
-cast-fill : tie.Need-overflow-cast-fill
-cast-fill c = omega (arith, counted c, (few_states _ (fits c.before).memory).few)
+overflow_cast-word_count : tie.Need-overflow_cast-word_count
+overflow_cast-word_count c = omega (arith, counted c, (few_states _ (fits c.before).memory).few)
 
 fill-requires : tie.Need-fill-requires
 fill-requires c κs =
@@ -66,29 +66,29 @@ fill-requires c κs =
     let w = fits at.before in
     rw (counted at) (few_states _ w.memory, (w.next_long, w.words_long))
 
-same_length : tie.Need-same-length
-same_length c = search rules
+shape_of-next : tie.Need-shape_of-next
+shape_of-next c = search rules
 
-same-length-2 : tie.Need-same-length-2
-same-length-2 c = search rules
+shape_of-words : tie.Need-shape_of-words
+shape_of-words c = search rules
 
-returns-2 : tie.Need-returns-2
-returns-2 c =
+returns : tie.Need-returns
+returns c =
     let filled = c.before.before.before.before in
     let at = filled.before.before.before in
     built_done _ _ (passed at.before) (rw (counted at) at filled.fill.ensures)
 
-pub taps-table-spec : {M : Type 1} → statement M
-taps-table-spec =
+pub taps_table_spec : {M : Type 1} → statement M
+taps_table_spec =
     tie.close
     (tie.spec
-    taps-reply-requires
-    enum_told
-    returns
-    enum-told-2
-    word-count-requires
-    cast-fill
+    taps_reply-reply-requires
+    enum_told-1
+    returns-in-Refused
+    enum_told-in_default
+    word_count-requires
+    overflow_cast-word_count
     fill-requires
-    same_length
-    same-length-2
-    returns-2)
+    shape_of-next
+    shape_of-words
+    returns)

@@ -6,17 +6,17 @@ use borrow.Author.Tests.{eq-eqb, ne_eqb}
 use Rattle.coder.proofs.checks.encode_lists_fit.Statement.{statement}
 use Rattle.coder.proofs.checks.encode_lists_fit.Tie as tie
 
+returns-then-pattern-bits : tie.Need-returns-then-pattern-bits
+returns-then-pattern-bits c = rw (ne_eqb _ _ c.if-pattern-bits.true)
+
+returns-then-message-bits : tie.Need-returns-then-message-bits
+returns-then-message-bits c = rw (ne_eqb _ _ c.if-message-bits.true, and-false)
+
+frame_fits-requires : tie.Need-frame_fits-requires
+frame_fits-requires c κs = search rules
+
 returns : tie.Need-returns
-returns c = rw (ne_eqb _ _ c.if1.true)
+returns c = rw (c.frame_fits.ensures, eq-eqb _ _ c.before.before.if-pattern-bits.false, eq-eqb _ _ c.before.if-message-bits.false)
 
-returns-2 : tie.Need-returns-2
-returns-2 c = rw (ne_eqb _ _ c.if2.true, and-false)
-
-frame-fits-requires : tie.Need-frame-fits-requires
-frame-fits-requires c κs = search rules
-
-returns-3 : tie.Need-returns-3
-returns-3 c = rw (c.frame-fits.ensures, eq-eqb _ _ c.before.before.if1.false, eq-eqb _ _ c.before.if2.false)
-
-pub encode-lists-fit-spec : {M : Type 1} → statement M
-encode-lists-fit-spec = tie.close (tie.spec returns returns-2 frame-fits-requires returns-3)
+pub encode_lists_fit_spec : {M : Type 1} → statement M
+encode_lists_fit_spec = tie.close (tie.spec returns-then-pattern-bits returns-then-message-bits frame_fits-requires returns)

@@ -6,38 +6,38 @@ use Rattle.refusal.specs.laws.Checks.{then_done}
 use Rattle.coder.proofs.checks.entries_reply.Statement.{statement}
 use Rattle.coder.proofs.checks.entries_reply.Tie as tie
 
-all-below-requires : tie.Need-all-below-requires
-all-below-requires c κs = search rules
+all_below-requires : tie.Need-all_below-requires
+all_below-requires c κs = search rules
 
-check-requires : tie.Need-check-requires
-check-requires c κs = search rules
+check-message_reply-requires : tie.Need-check-message_reply-requires
+check-message_reply-requires c κs = search rules
 
 permutes-requires : tie.Need-permutes-requires
 permutes-requires c κs = search rules
 
-check-requires-2 : tie.Need-check-requires-2
-check-requires-2 c κs = search rules
+check-pattern_reply-requires : tie.Need-check-pattern_reply-requires
+check-pattern_reply-requires c κs = search rules
 
-masks-fit-requires : tie.Need-masks-fit-requires
-masks-fit-requires c κs = search rules
+masks_fit-requires : tie.Need-masks_fit-requires
+masks_fit-requires c κs = search rules
 
-check-requires-3 : tie.Need-check-requires-3
-check-requires-3 c κs = search rules
+check-masks_reply-requires : tie.Need-check-masks_reply-requires
+check-masks_reply-requires c κs = search rules
 
 codes-requires : tie.Need-codes-requires
 codes-requires c κs = search rules
 
-check-requires-4 : tie.Need-check-requires-4
-check-requires-4 c κs = search rules
+check-table_reply-requires : tie.Need-check-table_reply-requires
+check-table_reply-requires c κs = search rules
 
-first-of-requires : tie.Need-first-of-requires
-first-of-requires c κs = search rules
+first_of-frame_reply-requires : tie.Need-first_of-frame_reply-requires
+first_of-frame_reply-requires c κs = search rules
 
-first-of-requires-2 : tie.Need-first-of-requires-2
-first-of-requires-2 c κs = search rules
+first_of-requires : tie.Need-first_of-requires
+first_of-requires c κs = search rules
 
-first-of-requires-3 : tie.Need-first-of-requires-3
-first-of-requires-3 c κs = search rules
+first_of-requires-2 : tie.Need-first_of-requires-2
+first_of-requires-2 c κs = search rules
 
 returns : tie.Need-returns
 unfolding first_of
@@ -47,33 +47,33 @@ returns c =
     let ordered = masked.before.before in
     let read = ordered.before.before in
     rw (
-      c.first-of3.ensures,
-      c.before.first-of2.ensures,
-      c.before.before.first_of_lem.ensures,
-      coded.check4.ensures,
+      c.first_of-2.ensures,
+      c.before.first_of.ensures,
+      c.before.before.first_of-frame_reply.ensures,
+      coded.check-table_reply.ensures,
       coded.before.codes.ensures,
-      masked.check3.ensures,
-      masked.before.masks_fit_lem.ensures,
-      ordered.check2.ensures,
+      masked.check-masks_reply.ensures,
+      masked.before.masks_fit.ensures,
+      ordered.check-pattern_reply.ensures,
       ordered.before.permutes.ensures,
-      read.check.ensures,
-      read.before.all-below.ensures,
+      read.check-message_reply.ensures,
+      read.before.all_below.ensures,
     )
     (simp then_done)
 
-pub entries-reply-spec : {M : Type 1} → statement M
-entries-reply-spec =
+pub entries_reply_spec : {M : Type 1} → statement M
+entries_reply_spec =
     tie.close
     (tie.spec
-    all-below-requires
-    check-requires
+    all_below-requires
+    check-message_reply-requires
     permutes-requires
-    check-requires-2
-    masks-fit-requires
-    check-requires-3
+    check-pattern_reply-requires
+    masks_fit-requires
+    check-masks_reply-requires
     codes-requires
-    check-requires-4
-    first-of-requires
-    first-of-requires-2
-    first-of-requires-3
+    check-table_reply-requires
+    first_of-frame_reply-requires
+    first_of-requires
+    first_of-requires-2
     returns)

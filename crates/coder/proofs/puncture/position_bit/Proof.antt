@@ -9,19 +9,19 @@ use Rattle.coder.specs.laws.Places.{section_at_lem}
 use Rattle.coder.proofs.puncture.position_bit.Statement.{statement}
 use Rattle.coder.proofs.puncture.position_bit.Tie as tie
 
-section-bit-requires : tie.Need-section-bit-requires
-section-bit-requires c κs = search rules
+section_bit-requires : tie.Need-section_bit-requires
+section_bit-requires c κs = search rules
 
-section-bit-requires-2 : tie.Need-section-bit-requires-2
-section-bit-requires-2 c κs = search rules
+section_bit-requires-else-i-lt2 : tie.Need-section_bit-requires-else-i-lt2
+section_bit-requires-else-i-lt2 c κs = search rules
 
-returns : tie.Need-returns
-returns c =
+returns-then-i-lt2 : tie.Need-returns-then-i-lt2
+returns-then-i-lt2 c =
     let a = c.before.before.args in
-    c.section-bit.ensures ∙ sym (section_at_lem a.first (output a.second 1 ∷ []) a.i c.before.if1.true)
+    c.section_bit.ensures ∙ sym (section_at_lem a.first (output a.second 1 ∷ []) a.i c.before.if-i-lt2.true)
 
-returns-2 : tie.Need-returns-2
-returns-2 c = let e : c.before.before.args.i ≡ 2 = omega arith in rw e c.section-bit2.ensures
+returns-else-i-lt2 : tie.Need-returns-else-i-lt2
+returns-else-i-lt2 c = let e : c.before.before.args.i ≡ 2 = omega arith in rw e c.section_bit-else-i-lt2.ensures
 
-pub position-bit-spec : {M : Type 1} → statement M
-position-bit-spec = tie.close (tie.spec section-bit-requires section-bit-requires-2 returns returns-2)
+pub position_bit_spec : {M : Type 1} → statement M
+position_bit_spec = tie.close (tie.spec section_bit-requires section_bit-requires-else-i-lt2 returns-then-i-lt2 returns-else-i-lt2)

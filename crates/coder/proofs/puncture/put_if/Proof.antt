@@ -5,20 +5,20 @@ use borrow.Author.Rules.{rules}
 use Rattle.coder.proofs.puncture.put_if.Statement.{statement}
 use Rattle.coder.proofs.puncture.put_if.Tie as tie
 
-slice-write-sent : tie.Need-slice-write-sent
-slice-write-sent c = c.before.requires c.if1.true
+bounds-sent-at : tie.Need-bounds-sent-at
+bounds-sent-at c = c.before.requires c.if-sends.true
 
-add-result : tie.Need-overflow-add-result
-add-result c = omega (arith, c.before.requires c.if1.true)
+overflow_add-result : tie.Need-overflow_add-result
+overflow_add-result c = omega (arith, c.before.requires c.if-sends.true)
 
-same_length : tie.Need-same-length
-same_length c = search rules
+shape_of-sent-then-sends : tie.Need-shape_of-sent-then-sends
+shape_of-sent-then-sends c = search rules
+
+returns-then-sends : tie.Need-returns-then-sends
+returns-then-sends c = rw c.if-sends.true (search rules)
 
 returns : tie.Need-returns
-returns c = rw c.if1.true (search rules)
+returns c = rw c.if-sends.false (search rules)
 
-returns-2 : tie.Need-returns-2
-returns-2 c = rw c.if1.false (search rules)
-
-pub put-if-spec : {M : Type 1} → statement M
-put-if-spec = tie.close (tie.spec slice-write-sent add-result same_length returns returns-2)
+pub put_if_spec : {M : Type 1} → statement M
+put_if_spec = tie.close (tie.spec bounds-sent-at overflow_add-result shape_of-sent-then-sends returns-then-sends returns)

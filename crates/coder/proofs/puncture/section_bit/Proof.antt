@@ -6,13 +6,13 @@ use Rattle.trellis.specs.Table.{output}
 use Rattle.coder.proofs.puncture.section_bit.Statement.{statement}
 use Rattle.coder.proofs.puncture.section_bit.Tie as tie
 
-returns : tie.Need-returns
+returns-then-i-eq0 : tie.Need-returns-then-i-eq0
 unfolding output
-returns c = rw c.if1.true (omega arith)
+returns-then-i-eq0 c = rw c.if-i-eq0.true (omega arith)
 
-returns-2 : tie.Need-returns-2
+returns-else-i-eq0 : tie.Need-returns-else-i-eq0
 unfolding output
-returns-2 c = let e : c.before.args.i ≡ 1 = omega arith in rw e
+returns-else-i-eq0 c = let e : c.before.args.i ≡ 1 = omega arith in rw e
 
-pub section-bit-spec : {M : Type 1} → statement M
-section-bit-spec = tie.close (tie.spec returns returns-2)
+pub section_bit_spec : {M : Type 1} → statement M
+section_bit_spec = tie.close (tie.spec returns-then-i-eq0 returns-else-i-eq0)

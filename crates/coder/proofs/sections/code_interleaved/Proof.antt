@@ -11,63 +11,63 @@ use Rattle.coder.proofs.sections.code_interleaved.Statement.{statement}
 use Rattle.coder.proofs.sections.code_interleaved.Tie as tie
 
 -- the list has room for the message
-fits : (c : tie.After-blank) → length c.before.before.before.before.before.before.args.message.now ≤ length c.blank.result
+fits : (c : tie.After-blank-interleaved) → length c.before.before.before.before.before.before.args.message.now ≤ length c.blank-interleaved.result
 fits c = omega arith
 
-abbrev start : tie.After-interleave-bits → tie.Start
+abbrev start : tie.After-interleave_bits → tie.Start
 start c = c.before.before.before.before.before.before.before.before
 
 -- the part, once it has come back
-interleaved-back : (c : tie.After-interleave-bits) →
-    Back (length (start c).args.message.now) c.before.before.blank.result c.interleave-bits.new.1.1.0
-interleaved-back c = front_back _ _ (fits c.before.before) c.interleave-bits.auto.1.1.0
+interleaved-back : (c : tie.After-interleave_bits) →
+    Back (length (start c).args.message.now) c.before.before.blank-interleaved.result c.interleave_bits.new.out
+interleaved-back c = front_back _ _ (fits c.before.before) c.interleave_bits.auto.out
 
-blank-requires : tie.Need-blank-requires
-blank-requires c κs = search rules
+blank-interleaved-requires : tie.Need-blank-interleaved-requires
+blank-interleaved-requires c κs = search rules
 
-array-borrow-prefix-interleaved : tie.Need-array-borrow-prefix-interleaved
-array-borrow-prefix-interleaved c = search rules
+slice_bounds-interleaved-end : tie.Need-slice_bounds-interleaved-end
+slice_bounds-interleaved-end c = search rules
 
-slice-aggregate-interleave-bits : tie.Need-slice-aggregate-interleave-bits
-slice-aggregate-interleave-bits c = front_long _ _ (fits c.before)
+slice_bounds-interleave_bits-end : tie.Need-slice_bounds-interleave_bits-end
+slice_bounds-interleave_bits-end c = front_long _ _ (fits c.before)
 
-interleave-bits-requires : tie.Need-interleave-bits-requires
-interleave-bits-requires c κs =
+interleave_bits-requires : tie.Need-interleave_bits-requires
+interleave_bits-requires c κs =
     let w = c.before.before.before.before.before.before.before.requires.1.1.0 in
     rw w.size (w, (refl, sym (front_long _ _ (fits c.before))))
 
-array-share-prefix-interleaved : tie.Need-array-share-prefix-interleaved
-array-share-prefix-interleaved c = (interleaved-back c.before).within
+slice_bounds-interleaved-end-2 : tie.Need-slice_bounds-interleaved-end-2
+slice_bounds-interleaved-end-2 c = (interleaved-back c.before).within
 
-slice-aggregate-code : tie.Need-slice-aggregate-code
-slice-aggregate-code c = let back = interleaved-back c.before.before in rw back.is (sym back.long)
+slice_bounds-code-end : tie.Need-slice_bounds-code-end
+slice_bounds-code-end c = let back = interleaved-back c.before.before in rw back.is (sym back.long)
 
 code-requires : tie.Need-code-requires
 code-requires c κs =
     let pre = (start c.before.before.before).requires in
-    let call = c.before.before.before.interleave-bits in
+    let call = c.before.before.before.interleave_bits in
     let back = interleaved-back c.before.before.before in
     let bits = bits_interleaved pre.1.1.0 pre.1.1.1.0 in
     rw (back.is, back.long) (pre.0, (pre.1.0, (rw (← call.ensures) at bits, (pre.1.1.1.1.0, pre.1.1.1.1.1.1))))
 
-same_length : tie.Need-same-length
-same_length c = search rules
+shape_of-out : tie.Need-shape_of-out
+shape_of-out c = search rules
 
 returns : tie.Need-returns
 returns c =
     let told = c.before.before.before.before.before.before in
-    rw ((interleaved-back told).is, told.interleave-bits.ensures) at c.before.before.code.ensures
+    rw ((interleaved-back told).is, told.interleave_bits.ensures) at c.before.before.code.ensures
 
-pub code-interleaved-spec : {M : Type 1} → statement M
-code-interleaved-spec =
+pub code_interleaved_spec : {M : Type 1} → statement M
+code_interleaved_spec =
     tie.close
     (tie.spec
-    blank-requires
-    array-borrow-prefix-interleaved
-    slice-aggregate-interleave-bits
-    interleave-bits-requires
-    array-share-prefix-interleaved
-    slice-aggregate-code
+    blank-interleaved-requires
+    slice_bounds-interleaved-end
+    slice_bounds-interleave_bits-end
+    interleave_bits-requires
+    slice_bounds-interleaved-end-2
+    slice_bounds-code-end
     code-requires
-    same_length
+    shape_of-out
     returns)

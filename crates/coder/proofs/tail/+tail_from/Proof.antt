@@ -30,94 +30,94 @@ abbrev known : ℕ → lts.Claims
 known t = (target-reads.Asked, target-reads.Learnt, called t, own.Post, with-input-reads.Asked, with-input-reads.Learnt)
 
 module _ (t : ℕ) where
-  returns : lts.Need-returns (known t) (entered t) own.Post
-  returns c = tail_boundary _ _ _ c.before.if1.true c.if2.true
+  returns-then-s-eq0 : lts.Need-returns-then-s-eq0 (known t) (entered t) own.Post
+  returns-then-s-eq0 c = tail_boundary _ _ _ c.before.if-left-eq0.true c.if-s-eq0.true
 
-  returns-2 : lts.Need-returns-2 (known t) (entered t) own.Post
-  returns-2 c = tail_away _ _ _ c.before.if1.true c.if2.false
+  returns-then-left-eq0 : lts.Need-returns-then-left-eq0 (known t) (entered t) own.Post
+  returns-then-left-eq0 c = tail_away _ _ _ c.before.if-left-eq0.true c.if-s-eq0.false
 
   target-requires : lts.Need-target-requires (known t) (entered t) own.Post
   target-requires c κs = (omega (arith, c.before.before.requires.1.0.starts), c.before.before.requires.1.0.few)
 
-  sub-tail-from : lts.Need-overflow-sub-tail-from (known t) (entered t) own.Post
-  sub-tail-from c = search rules
+  overflow_sub-left : lts.Need-overflow_sub-left (known t) (entered t) own.Post
+  overflow_sub-left c = search rules
 
-  tail-from-requires : lts.Need-tail-from-requires (known t) (entered t) own.Post
-  tail-from-requires c κs =
+  tail_from-low-requires : lts.Need-tail_from-low-requires (known t) (entered t) own.Post
+  tail_from-low-requires c κs =
       let start = c.before.before.before in
       (omega (arith, start.requires.0), (leads_on _ (lit< tt) start.requires.1.0 c.target.ensures, omega (arith, start.requires.1.1)))
 
-  enum_told : lts.Need-enum-told (known t) (entered t) own.Post
+  enum_told : lts.Need-enum_told-1 (known t) (entered t) own.Post
   enum_told c = search rules
 
-  with-input-requires : lts.Need-with-input-requires (known t) (entered t) own.Post
-  with-input-requires c κs =
-      let start = c.before.before.before.before.before.before in
-      (lit< tt, short_three (start.args.left - 1) c.before.before.Tail-from.result (omega (arith, start.requires.1.1)) c.before.before.Tail-from.ensures.short)
+  with_input-requires : lts.Need-with_input-requires (known t) (entered t) own.Post
+  with_input-requires c κs =
+      let start = c.before.before.before.before.before in
+      (lit< tt, short_three (start.args.left - 1) c.tail_from-low.result (omega (arith, start.requires.1.1)) c.tail_from-low.ensures.short)
 
-  enum-told-2 : lts.Need-enum-told-2 (known t) (entered t) own.Post
-  enum-told-2 c = search rules
+  enum_told-in-Nothing : lts.Need-enum_told-in-Nothing (known t) (entered t) own.Post
+  enum_told-in-Nothing c = search rules
 
-  target-requires-2 : lts.Need-target-requires-2 (known t) (entered t) own.Post
-  target-requires-2 c κs =
-      let start = c.before.before.before.before.before.before in
+  target-requires-in-Nothing : lts.Need-target-requires-in-Nothing (known t) (entered t) own.Post
+  target-requires-in-Nothing c κs =
+      let start = c.before.before.before.before.before in
       (omega (arith, start.requires.1.0.starts), start.requires.1.0.few)
 
-  sub-tail-from-2 : lts.Need-overflow-sub-tail-from-2 (known t) (entered t) own.Post
-  sub-tail-from-2 c = omega (arith, c.before.before.before.before.before)
+  overflow_sub-left-in-Nothing : lts.Need-overflow_sub-left-in-Nothing (known t) (entered t) own.Post
+  overflow_sub-left-in-Nothing c = omega (arith, c.before.before.before.before)
 
-  tail-from-requires-2 : lts.Need-tail-from-requires-2 (known t) (entered t) own.Post
-  tail-from-requires-2 c κs =
+  tail_from-requires : lts.Need-tail_from-requires (known t) (entered t) own.Post
+  tail_from-requires c κs =
+      let start = c.before.before.before.before.before.before in
+      (omega (arith, start.requires.0, c.before.before.before.before), (leads_on _ (lit< tt) start.requires.1.0 c.target-in-Nothing.ensures, omega (arith, start.requires.1.1)))
+
+  with_input-requires-in-Nothing : lts.Need-with_input-requires-in-Nothing (known t) (entered t) own.Post
+  with_input-requires-in-Nothing c κs =
       let start = c.before.before.before.before.before.before.before in
-      (omega (arith, start.requires.0, c.before.before.before.before.before), (leads_on _ (lit< tt) start.requires.1.0 c.target2.ensures, omega (arith, start.requires.1.1)))
+      (lit< tt, short_three (start.args.left - 1) c.tail_from.result (omega (arith, start.requires.1.1)) c.tail_from.ensures.short)
 
-  with-input-requires-2 : lts.Need-with-input-requires-2 (known t) (entered t) own.Post
-  with-input-requires-2 c κs =
-      let start = c.before.before.before.before.before.before.before.before in
-      (lit< tt, short_three (start.args.left - 1) c.tail-from2.result (omega (arith, start.requires.1.1)) c.tail-from2.ensures.short)
-
-  returns-3 : lts.Need-returns-3 (known t) (entered t) own.Post
-  returns-3 c =
+  returns-in-Inputs : lts.Need-returns-in-Inputs (known t) (entered t) own.Post
+  returns-in-Inputs c =
       tail_low
       _
       _
-      c.before.before.before.before.before.if1.false
-      c.before.before.before.before.target.ensures
-      c.before.before.before.Tail-from.ensures
-      c.before.enum_told.given.1
-      c.with-input.ensures
+      c.if-left-eq0.false
+      c.target.ensures
+      c.tail_from-low.ensures
+      c.in-Inputs.is
+      c.with_input.ensures
 
-  returns-4 : lts.Need-returns-4 (known t) (entered t) own.Post
-  returns-4 c =
+  returns-in-Nothing : lts.Need-returns-in-Nothing (known t) (entered t) own.Post
+  returns-in-Nothing c =
       tail_high
       _
       _
-      c.before.before.before.before.before.before.before.if1.false
-      c.before.before.before.before.before.before.target.ensures
-      c.before.before.before.before.before.Tail-from.ensures
-      c.before.before.before.enum-told2.given.1
-      c.before.before.target2.ensures
-      c.before.tail-from2.ensures
-      c.with-input2.ensures
+      c.if-left-eq0.false
+      c.target.ensures
+      c.tail_from-low.ensures
+      c.in-Nothing.is
+      c.before.before.target-in-Nothing.ensures
+      c.before.tail_from.ensures
+      c.with_input-in-Nothing.ensures
 
-pub +tail-from-spec : {M : Type 1} → statement M
-+tail-from-spec =
+pub +tail_from_spec : {M : Type 1} → statement M
++tail_from_spec =
     close μ λ t.
     lts.spec
     (known t)
     (entered t)
     own.Post
-    (returns t)
-    (returns-2 t)
+    (returns-then-s-eq0 t)
+    (returns-then-left-eq0 t)
     (target-requires t)
-    (sub-tail-from t)
-    (tail-from-requires t)
+    (overflow_sub-left t)
+    (tail_from-low-requires t)
     (enum_told t)
-    (with-input-requires t)
-    (enum-told-2 t)
-    (target-requires-2 t)
-    (sub-tail-from-2 t)
-    (tail-from-requires-2 t)
-    (with-input-requires-2 t)
-    (returns-3 t)
-    (returns-4 t)
+    (with_input-requires t)
+    (enum_told-in-Nothing t)
+    (target-requires-in-Nothing t)
+    (overflow_sub-left-in-Nothing t)
+    (tail_from-requires t)
+    (with_input-requires-in-Nothing t)
+    (returns-in-Inputs t)
+    (returns-in-Nothing t)

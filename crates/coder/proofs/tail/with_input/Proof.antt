@@ -6,26 +6,26 @@ use borrow.Author.Rules.{rules}
 use Rattle.coder.proofs.tail.with_input.Statement.{statement}
 use Rattle.coder.proofs.tail.with_input.Tie as tie
 
-three-inputs : (c : tie.After-t) → c.t.given.0.0 < 8
-three-inputs c = rw c.t.given.1 at c.before.before.requires.1
+three-inputs : (c : tie.In-Inputs) → c.in-Inputs.bits < 8
+three-inputs c = rw c.in-Inputs.is at c.requires.1
 
-enum_told : tie.Need-enum-told
+enum_told : tie.Need-enum_told-1
 enum_told c = search rules
 
-enum-known-t : tie.Need-enum-known-t
-enum-known-t c = search rules
+enum_known-t : tie.Need-enum_known-t
+enum_known-t c = search rules
 
-mul-t5 : tie.Need-overflow-mul-t5
-mul-t5 c = omega (arith, three-inputs c.before)
+overflow_mul-result : tie.Need-overflow_mul-result
+overflow_mul-result c = omega (arith, three-inputs c)
 
-add-t6 : tie.Need-overflow-add-t6
-add-t6 c = omega (arith, three-inputs c.before)
+overflow_add-result : tie.Need-overflow_add-result
+overflow_add-result c = omega (arith, three-inputs c)
 
-returns : tie.Need-returns
-returns c = rw c.enum_told.given.1
+returns-in-Nothing : tie.Need-returns-in-Nothing
+returns-in-Nothing c = rw c.in-Nothing.is
 
-returns-2 : tie.Need-returns-2
-returns-2 c = rw c.before.t.given.1
+returns-in-Inputs : tie.Need-returns-in-Inputs
+returns-in-Inputs c = rw c.in-Inputs.is
 
-pub with-input-spec : {M : Type 1} → statement M
-with-input-spec = tie.close (tie.spec enum_told enum-known-t mul-t5 add-t6 returns returns-2)
+pub with_input_spec : {M : Type 1} → statement M
+with_input_spec = tie.close (tie.spec enum_told enum_known-t overflow_mul-result overflow_add-result returns-in-Nothing returns-in-Inputs)

@@ -10,62 +10,62 @@ use Rattle.taps.proofs.branch.branch_at.Statement.{statement}
 use Rattle.taps.proofs.branch.branch_at.Tie as tie
 
 -- the register that the code forms is the definition's
-register-is : (c : tie.After-odd-under) → let a = c.before.args in
-    (a.i % 2 + c.odd-under.result) % 2 + 2 * (a.i / 2) ≡ register_of a.feedback (a.i / 2) (a.i % 2)
+register-is : (c : tie.After-odd_under) → let a = c.args in
+    (a.i % 2 + c.odd_under.result) % 2 + 2 * (a.i / 2) ≡ register_of a.feedback (a.i / 2) (a.i % 2)
 unfolding register_of new_bit
-register-is c = rw c.odd-under.ensures.0
+register-is c = rw c.odd_under.ensures.0
 
-mul-old : tie.Need-overflow-mul-old
-mul-old c = search rules
+overflow_mul-old : tie.Need-overflow_mul-old
+overflow_mul-old c = search rules
 
-odd-under-requires : tie.Need-odd-under-requires
-odd-under-requires c κs = search rules
+odd_under-requires : tie.Need-odd_under-requires
+odd_under-requires c κs = search rules
 
-add-new : tie.Need-overflow-add-new
-add-new c = search rules
+overflow_add-new : tie.Need-overflow_add-new
+overflow_add-new c = search rules
 
-add-register : tie.Need-overflow-add-register
-add-register c = search rules
+overflow_add-register : tie.Need-overflow_add-register
+overflow_add-register c = search rules
 
-rem-t9 : tie.Need-nonzero-rem-t9
-rem-t9 c = search rules
+nonzero_rem-result : tie.Need-nonzero_rem-result
+nonzero_rem-result c = search rules
 
-cast-t11 : tie.Need-overflow-cast-t11
-cast-t11 c =
-    let states = c.before.requires.0 in
-    omega (arith, mod-lt ((c.before.args.i % 2 + c.odd-under.result) % 2 + 2 * (c.before.args.i / 2)) states.some, states.few)
+overflow_cast-result : tie.Need-overflow_cast-result
+overflow_cast-result c =
+    let states = c.requires.0 in
+    omega (arith, mod-lt ((c.args.i % 2 + c.odd_under.result) % 2 + 2 * (c.args.i / 2)) states.some, states.few)
 
-odd-under-requires-2 : tie.Need-odd-under-requires-2
-odd-under-requires-2 c κs = search rules
+odd_under-requires-2 : tie.Need-odd_under-requires-2
+odd_under-requires-2 c κs = search rules
 
-mul-t12 : tie.Need-overflow-mul-t12
-mul-t12 c = search rules
+overflow_mul-result : tie.Need-overflow_mul-result
+overflow_mul-result c = search rules
 
-add-t13 : tie.Need-overflow-add-t13
-add-t13 c = search rules
+overflow_add-result : tie.Need-overflow_add-result
+overflow_add-result c = search rules
 
-cast-t14 : tie.Need-overflow-cast-t14
-cast-t14 c = search rules
+overflow_cast-result-2 : tie.Need-overflow_cast-result-2
+overflow_cast-result-2 c = search rules
 
 returns : tie.Need-returns
 unfolding taps_next taps_parity
 returns c =
-    let a = c.before.before.args in
+    let a = c.args in
     let register = register-is c.before in
-    (rw register, ap (λ (p : ℕ). a.i % 2 + 2 * p) (c.odd-under2.ensures.0 ∙ ap (odd_under a.parity) register))
+    (rw register, ap (λ (p : ℕ). a.i % 2 + 2 * p) (c.odd_under-2.ensures.0 ∙ ap (odd_under a.parity) register))
 
-pub branch-at-spec : {M : Type 1} → statement M
-branch-at-spec =
+pub branch_at_spec : {M : Type 1} → statement M
+branch_at_spec =
     tie.close
     (tie.spec
-    mul-old
-    odd-under-requires
-    add-new
-    add-register
-    rem-t9
-    cast-t11
-    odd-under-requires-2
-    mul-t12
-    add-t13
-    cast-t14
+    overflow_mul-old
+    odd_under-requires
+    overflow_add-new
+    overflow_add-register
+    nonzero_rem-result
+    overflow_cast-result
+    odd_under-requires-2
+    overflow_mul-result
+    overflow_add-result
+    overflow_cast-result-2
     returns)

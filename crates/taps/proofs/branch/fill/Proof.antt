@@ -10,7 +10,7 @@ use Rattle.taps.specs.Taps.{next_entry, word_entry}
 use Rattle.taps.proofs.branch.fill.Statement.{statement}
 use Rattle.taps.proofs.branch.fill.Tie as tie
 
-abbrev invariant-loop : tie.invariant-loop
+abbrev invariant-loop : tie.invariant-loop-i
 invariant-loop states feedback parity next₀ words₀ i₀ next words i =
     (i ≤ 2 * states)
     × (length next ≡ length next₀)
@@ -18,41 +18,41 @@ invariant-loop states feedback parity next₀ words₀ i₀ next words i =
     × Filled 0 (next_entry states feedback) next i
     × Filled 0 (word_entry feedback parity) words i
 
-abbrev decreases-loop : tie.decreases-loop
+abbrev decreases-loop : tie.decreases-loop-i
 decreases-loop states feedback parity next₀ words₀ i₀ next words i = 2 * states - i
 
-loop-holds : tie.Need-loop-init invariant-loop decreases-loop
-loop-holds c = (search rules, refl, refl, filled_none _, filled_none _)
+loop-i-init : tie.Need-loop-i-init invariant-loop decreases-loop
+loop-i-init c = (search rules, refl, refl, filled_none _, filled_none _)
 
-mul-loop : tie.Need-overflow-mul-loop invariant-loop decreases-loop
-mul-loop c = search rules
+overflow_mul-states : tie.Need-overflow_mul-states invariant-loop decreases-loop
+overflow_mul-states c = search rules
 
-branch-at-requires : tie.Need-branch-at-requires invariant-loop decreases-loop
-branch-at-requires c κs = search rules
+branch_at-b-requires : tie.Need-branch_at-b-requires invariant-loop decreases-loop
+branch_at-b-requires c κs = search rules
 
-cast-next : tie.Need-overflow-cast-next invariant-loop decreases-loop
-cast-next c = search rules
+overflow_cast-next : tie.Need-overflow_cast-next invariant-loop decreases-loop
+overflow_cast-next c = search rules
 
-slice-write-next : tie.Need-slice-write-next invariant-loop decreases-loop
-slice-write-next c = search rules
+bounds-next-i : tie.Need-bounds-next-i invariant-loop decreases-loop
+bounds-next-i c = search rules
 
-cast-words : tie.Need-overflow-cast-words invariant-loop decreases-loop
-cast-words c = search rules
+overflow_cast-words : tie.Need-overflow_cast-words invariant-loop decreases-loop
+overflow_cast-words c = search rules
 
-slice-write-words : tie.Need-slice-write-words invariant-loop decreases-loop
-slice-write-words c = search rules
+bounds-words-i : tie.Need-bounds-words-i invariant-loop decreases-loop
+bounds-words-i c = search rules
 
-add-i : tie.Need-overflow-add-i invariant-loop decreases-loop
-add-i c = search rules
+overflow_add-i : tie.Need-overflow_add-i invariant-loop decreases-loop
+overflow_add-i c = search rules
 
-loop-less : tie.Need-loop-smaller invariant-loop decreases-loop
-loop-less c = search rules
+loop-i-smaller : tie.Need-loop-i-smaller invariant-loop decreases-loop
+loop-i-smaller c = search rules
 
-loop-again : tie.Need-loop-preserved invariant-loop decreases-loop
-loop-again c =
-    let inv = c.before.before.loop.invariant in
-    let pre = c.before.before.before.before.before.requires in
-    let branch = c.branch_at.ensures in (
+loop-i-preserved : tie.Need-loop-i-preserved invariant-loop decreases-loop
+loop-i-preserved c =
+    let inv = c.loop-i.invariant in
+    let pre = c.requires in
+    let branch = c.branch_at-b.ensures in (
       omega arith,
       simp length-set inv.1,
       simp length-set inv.2,
@@ -60,15 +60,15 @@ loop-again c =
       filled_more (omega (arith, inv.2, pre.1.1)) branch.1 inv.4,
     )
 
-same_length : tie.Need-same-length invariant-loop decreases-loop
-same_length c = search rules
+shape_of-next : tie.Need-shape_of-next invariant-loop decreases-loop
+shape_of-next c = search rules
 
-same-length-2 : tie.Need-same-length-2 invariant-loop decreases-loop
-same-length-2 c = search rules
+shape_of-words : tie.Need-shape_of-words invariant-loop decreases-loop
+shape_of-words c = search rules
 
 returns : tie.Need-returns invariant-loop decreases-loop
 returns c =
-    let loop = c.before.loop in
+    let loop = c.loop-i in
     let start = c.before.before.before.before in
     let e : loop.i ≡ 2 * start.args.states = omega arith in
     record {
@@ -82,16 +82,16 @@ fill_spec =
     (tie.spec
     invariant-loop
     decreases-loop
-    loop-holds
-    mul-loop
-    branch-at-requires
-    cast-next
-    slice-write-next
-    cast-words
-    slice-write-words
-    add-i
-    loop-less
-    loop-again
-    same_length
-    same-length-2
+    loop-i-init
+    overflow_mul-states
+    branch_at-b-requires
+    overflow_cast-next
+    bounds-next-i
+    overflow_cast-words
+    bounds-words-i
+    overflow_add-i
+    loop-i-smaller
+    loop-i-preserved
+    shape_of-next
+    shape_of-words
     returns)

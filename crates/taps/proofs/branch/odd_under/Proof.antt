@@ -10,5 +10,5 @@ returns : tie.Need-returns
 unfolding odd_under
 returns c = (refl, omega arith)
 
-pub odd-under-spec : {M : Type 1} → statement M
-odd-under-spec = tie.close (tie.spec returns)
+pub odd_under_spec : {M : Type 1} → statement M
+odd_under_spec = tie.close (tie.spec returns)

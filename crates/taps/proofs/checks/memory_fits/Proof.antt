@@ -5,13 +5,13 @@ use Rattle.taps.specs.Build.{memory_fits}
 use Rattle.taps.proofs.checks.memory_fits.Statement.{statement}
 use Rattle.taps.proofs.checks.memory_fits.Tie as tie
 
+returns-then-memory-lt1 : tie.Need-returns-then-memory-lt1
+unfolding memory_fits
+returns-then-memory-lt1 c = rw (lt-leb 1 _ c.if-memory-lt1.true)
+
 returns : tie.Need-returns
 unfolding memory_fits
-returns c = rw (lt-leb 1 _ c.if1.true)
+returns c = rw (le-leb 1 _ c.if-memory-lt1.false)
 
-returns-2 : tie.Need-returns-2
-unfolding memory_fits
-returns-2 c = rw (le-leb 1 _ c.if1.false)
-
-pub memory-fits-spec : {M : Type 1} → statement M
-memory-fits-spec = tie.close (tie.spec returns returns-2)
+pub memory_fits_spec : {M : Type 1} → statement M
+memory_fits_spec = tie.close (tie.spec returns-then-memory-lt1 returns)

@@ -6,20 +6,20 @@ use Rattle.refusal.specs.laws.Checks.{then_done}
 use Rattle.taps.proofs.checks.taps_reply.Statement.{statement}
 use Rattle.taps.proofs.checks.taps_reply.Tie as tie
 
-lists-fit-requires : tie.Need-lists-fit-requires
-lists-fit-requires c κs = search rules
+lists_fit-requires : tie.Need-lists_fit-requires
+lists_fit-requires c κs = search rules
 
-check-requires : tie.Need-check-requires
-check-requires c κs = search rules
+check-lists-requires : tie.Need-check-lists-requires
+check-lists-requires c κs = search rules
 
-taps-fit-requires : tie.Need-taps-fit-requires
-taps-fit-requires c κs = search rules
+taps_fit-requires : tie.Need-taps_fit-requires
+taps_fit-requires c κs = search rules
 
-check-requires-2 : tie.Need-check-requires-2
-check-requires-2 c κs = search rules
+check-taps-requires : tie.Need-check-taps-requires
+check-taps-requires c κs = search rules
 
-first-of-requires : tie.Need-first-of-requires
-first-of-requires c κs = search rules
+first_of-requires : tie.Need-first_of-requires
+first_of-requires c κs = search rules
 
 returns : tie.Need-returns
 unfolding first_of
@@ -27,21 +27,21 @@ returns c =
     let taps = c.before in
     let lists = taps.before.before in
     rw (
-      c.first_of_lem.ensures,
-      taps.check2.ensures,
-      taps.before.taps-fit.ensures,
-      lists.check.ensures,
-      lists.before.lists_fit_lem.ensures,
+      c.first_of.ensures,
+      taps.check-taps.ensures,
+      taps.taps_fit.ensures,
+      lists.check-lists.ensures,
+      lists.lists_fit.ensures,
     )
     (simp then_done)
 
-pub taps-reply-spec : {M : Type 1} → statement M
-taps-reply-spec =
+pub taps_reply_spec : {M : Type 1} → statement M
+taps_reply_spec =
     tie.close
     (tie.spec
-    lists-fit-requires
-    check-requires
-    taps-fit-requires
-    check-requires-2
-    first-of-requires
+    lists_fit-requires
+    check-lists-requires
+    taps_fit-requires
+    check-taps-requires
+    first_of-requires
     returns)
