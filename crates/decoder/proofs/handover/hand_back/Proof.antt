@@ -14,97 +14,98 @@ use Rattle.lists.specs.laws.Listed.{map_at}
 use Rattle.frame.specs.laws.Interleaving.{Placed, placed_none, placed_more, placed_all}
 use Rattle.soft.specs.Soft.{hand_over}
 use borrow.Author.Rules.{rules}
+use mir.Syntax.{w32}
 use Rattle.decoder.proofs.handover.hand_back.Statement.{statement}
 use Rattle.decoder.proofs.handover.hand_back.Tie as tie
 
-abbrev invariant-loop : tie.invariant-loop
+abbrev invariant-loop : tie.invariant-loop-i
 invariant-loop pattern xs out₀ i₀ out i = (i ≤ length pattern) × (length out ≡ length out₀) × Placed (pos 0) pattern (map hand_over xs) out i
 
-abbrev decreases-loop : tie.decreases-loop
+abbrev decreases-loop : tie.decreases-loop-i
 decreases-loop pattern xs out₀ i₀ out i = length pattern - i
 
 -- an entry of the pattern is an index of the lists
-entry-below : (c : tie.In-loop invariant-loop decreases-loop) → get_or c.before.before.before.args.pattern.now c.before.loop.i 0 < length c.before.before.before.args.pattern.now
-entry-below c = c.before.before.before.requires.0.below c.before.loop.i c.loop-test.true
+entry-below : (c : tie.In-loop-i invariant-loop decreases-loop) → get_or c.args.pattern.now c.loop-i.i 0 < length c.args.pattern.now
+entry-below c = c.requires.0.below c.loop-i.i c.loop-i-test.true
 
-loop-holds : tie.Need-loop-init invariant-loop decreases-loop
-loop-holds c = (search rules, refl, placed_none _)
+loop-i-init : tie.Need-loop-i-init invariant-loop decreases-loop
+loop-i-init c = (search rules, refl, placed_none _)
 
-mul-to : tie.Need-overflow-mul-to invariant-loop decreases-loop
-mul-to c = search rules
+offset_bounds-pattern-i : tie.Need-offset_bounds-pattern-i invariant-loop decreases-loop
+offset_bounds-pattern-i c = search rules
 
-shared-slice-read-to : tie.Need-shared-slice-read-to invariant-loop decreases-loop
-shared-slice-read-to c = search rules
+bounds-pattern-i : tie.Need-bounds-pattern-i invariant-loop decreases-loop
+bounds-pattern-i c = search rules
 
-cast-to : tie.Need-overflow-cast-to invariant-loop decreases-loop
-cast-to c = omega (arith, c.shared-slice-known2.given c.before.before.loop.i)
+overflow_cast-to : tie.Need-overflow_cast-to invariant-loop decreases-loop
+overflow_cast-to c = omega (arith, c.shared_slice_known-in-loop-i-1.given c.loop-i.i)
 
-mul-handed : tie.Need-overflow-mul-handed invariant-loop decreases-loop
-mul-handed c = search rules
+offset_bounds-xs-i : tie.Need-offset_bounds-xs-i invariant-loop decreases-loop
+offset_bounds-xs-i c = search rules
 
-shared-slice-copy-out-handed : tie.Need-shared-slice-copy-out-handed invariant-loop decreases-loop
-shared-slice-copy-out-handed c = search rules
+bounds-xs-i : tie.Need-bounds-xs-i invariant-loop decreases-loop
+bounds-xs-i c = search rules
 
 handed-requires : tie.Need-handed-requires invariant-loop decreases-loop
 handed-requires c κs = search rules
 
-mul-t13 : tie.Need-overflow-mul-t13 invariant-loop decreases-loop
-mul-t13 c = omega (arith, entry-below c.before.before.before)
+offset_bounds-out-to : tie.Need-offset_bounds-out-to invariant-loop decreases-loop
+offset_bounds-out-to c = omega (arith, entry-below c.before.before.before)
 
-slice-set-from-out : tie.Need-slice-set-from-out invariant-loop decreases-loop
-slice-set-from-out c = omega (arith, entry-below c.before.before.before)
+bounds-out-to : tie.Need-bounds-out-to invariant-loop decreases-loop
+bounds-out-to c = omega (arith, entry-below c.before.before.before)
 
-add-i : tie.Need-overflow-add-i invariant-loop decreases-loop
-add-i c = search rules
+overflow_add-i : tie.Need-overflow_add-i invariant-loop decreases-loop
+overflow_add-i c = search rules
 
-loop-less : tie.Need-loop-smaller invariant-loop decreases-loop
-loop-less c = search rules
+loop-i-smaller : tie.Need-loop-i-smaller invariant-loop decreases-loop
+loop-i-smaller c = search rules
 
 -- what is stored is what its entry hands over
 value : (c : tie.After-handed invariant-loop decreases-loop) →
     to_z w16 (of_z w16 c.handed.result)
-    ≡ get_or (map hand_over c.before.before.before.before.before.before.args.xs.now) c.before.before.before.before.loop.i (pos 0)
+    ≡ get_or (map hand_over c.args.xs.now) c.loop-i.i (pos 0)
 value c =
     let start = c.before.before.before.before.before.before in
-    let here = c.before.before.before.loop-test.true in
-    to_z-of_z (fits_of c.handed.type-inv)
+    let here = c.loop-i-test.true in
+    to_z-of_z {w = w16} (fits_of c.handed.type_inv)
     ∙ c.handed.ensures
-    ∙ ap hand_over (to_z-of_z (fits_of c.before.handed-arg.given))
+    ∙ ap hand_over (to_z-of_z {w = w32} (fits_of c.handed-arg-1.given))
     ∙ sym (map_at hand_over start.args.xs.now _ (pos 0) (pos 0) (omega (arith, here, start.requires.1.0)))
 
-loop-again : tie.Need-loop-preserved invariant-loop decreases-loop
-loop-again c =
-    let inv = c.before.before.before.before.loop.invariant in
-    let pre = c.before.before.before.before.before.before.requires in
-    (omega arith, simp length-set inv.1, placed_more pre.0 (inv.1 ∙ pre.1.1) c.before.before.before.loop-test.true (value c) inv.2)
+loop-i-preserved : tie.Need-loop-i-preserved invariant-loop decreases-loop
+loop-i-preserved c =
+    let inv = c.loop-i.invariant in
+    let pre = c.requires in
+    (omega arith, simp length-set inv.1, placed_more pre.0 (inv.1 ∙ pre.1.1) c.loop-i-test.true (value c) inv.2)
 
-same_length : tie.Need-same-length invariant-loop decreases-loop
-same_length c = search rules
+shape_of-out : tie.Need-shape_of-out invariant-loop decreases-loop
+shape_of-out c = search rules
 
 returns : tie.Need-returns invariant-loop decreases-loop
 returns c =
     let start = c.before.before.before in
-    let loop = c.before.loop in
+    let loop = c.loop-i in
     let e : loop.i ≡ length start.args.pattern.now = omega arith in
     placed_all start.requires.0 (loop.invariant.1 ∙ start.requires.1.1) (rw e at loop.invariant.2)
 
-pub hand-back-spec : {M : Type 1} → statement M
-hand-back-spec =
+pub hand_back_spec : {M : Type 1} → statement M
+hand_back_spec =
     tie.close
     (tie.spec
     invariant-loop
     decreases-loop
-    loop-holds
-    mul-to
-    shared-slice-read-to
-    cast-to
-    mul-handed
-    shared-slice-copy-out-handed
+    loop-i-init
+    offset_bounds-pattern-i
+    bounds-pattern-i
+    overflow_cast-to
+    offset_bounds-xs-i
+    bounds-xs-i
     handed-requires
-    mul-t13
-    slice-set-from-out
-    add-i
-    loop-less
-    loop-again
-    same_length
+    offset_bounds-out-to
+    bounds-out-to
+    overflow_add-i
+    loop-i-smaller
+    loop-i-preserved
+    shape_of-out
     returns)

@@ -8,51 +8,51 @@ use Rattle.integers.specs.laws.Linear.{fits_of}
 use Rattle.decoder.proofs.spread.take_if.Statement.{statement}
 use Rattle.decoder.proofs.spread.take_if.Tie as tie
 
-mul-places : tie.Need-overflow-mul-places
-mul-places c = omega (arith, c.before.requires.0 c.if1.true)
+offset_bounds-received-at : tie.Need-offset_bounds-received-at
+offset_bounds-received-at c = omega (arith, c.requires.0 c.if-sends.true)
 
-shared-slice-copy-out-places : tie.Need-shared-slice-copy-out-places
-shared-slice-copy-out-places c = c.before.requires.0 c.if1.true
+bounds-received-at : tie.Need-bounds-received-at
+bounds-received-at c = c.requires.0 c.if-sends.true
 
-mul-t10 : tie.Need-overflow-mul-t10
-mul-t10 c = search rules
+offset_bounds-places-i : tie.Need-offset_bounds-places-i
+offset_bounds-places-i c = search rules
 
-slice-set-from-places : tie.Need-slice-set-from-places
-slice-set-from-places c = search rules
+bounds-places-i : tie.Need-bounds-places-i
+bounds-places-i c = search rules
 
-add-result : tie.Need-overflow-add-result
-add-result c = omega (arith, c.before.before.requires.0 c.before.if1.true)
+overflow_add-result : tie.Need-overflow_add-result
+overflow_add-result c = omega (arith, c.requires.0 c.if-sends.true)
 
-same_length : tie.Need-same-length
-same_length c = search rules
+shape_of-places-then-sends : tie.Need-shape_of-places-then-sends
+shape_of-places-then-sends c = search rules
+
+returns-then-sends : tie.Need-returns-then-sends
+returns-then-sends c = rw (c.if-sends.true, to_z-of_z (fits_of c.places-1.given)) (refl, refl)
+
+offset_bounds-places-i-2 : tie.Need-offset_bounds-places-i-2
+offset_bounds-places-i-2 c = search rules
+
+slice_set_of-places : tie.Need-slice_set_of-places
+slice_set_of-places c = search rules
+
+shape_of-places : tie.Need-shape_of-places
+shape_of-places c = search rules
 
 returns : tie.Need-returns
-returns c = rw (c.before.if1.true, to_z-of_z (fits_of c.places.given)) (refl, refl)
+returns c = rw c.if-sends.false (refl, refl)
 
-mul-places-2 : tie.Need-overflow-mul-places-2
-mul-places-2 c = search rules
-
-slice-set-of-places : tie.Need-slice-set-of-places
-slice-set-of-places c = search rules
-
-same-length-2 : tie.Need-same-length-2
-same-length-2 c = search rules
-
-returns-2 : tie.Need-returns-2
-returns-2 c = rw c.if1.false (refl, refl)
-
-pub take-if-spec : {M : Type 1} → statement M
-take-if-spec =
+pub take_if_spec : {M : Type 1} → statement M
+take_if_spec =
     tie.close
     (tie.spec
-    mul-places
-    shared-slice-copy-out-places
-    mul-t10
-    slice-set-from-places
-    add-result
-    same_length
-    returns
-    mul-places-2
-    slice-set-of-places
-    same-length-2
-    returns-2)
+    offset_bounds-received-at
+    bounds-received-at
+    offset_bounds-places-i
+    bounds-places-i
+    overflow_add-result
+    shape_of-places-then-sends
+    returns-then-sends
+    offset_bounds-places-i-2
+    slice_set_of-places
+    shape_of-places
+    returns)
