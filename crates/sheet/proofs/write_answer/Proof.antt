@@ -9,63 +9,63 @@ use Rattle.sheet.specs.laws.Decoding.{answer_refused}
 use Rattle.sheet.proofs.write_answer.Statement.{statement}
 use Rattle.sheet.proofs.write_answer.Tie as tie
 
-is-done : (c : tie.After-enum-told) → first_of (text_checks c.before.before.before.before.before.args.sheet.now) ≡ Done
-is-done c = sym c.before.before.text-reply.ensures.0 ∙ c.enum_told.given.1
+is-done : (c : tie.In_default) → first_of (text_checks c.args.sheet.now) ≡ Done
+is-done c = sym c.text_reply-reply.ensures.0 ∙ c.in_default.is
 
-text-reply-requires : tie.Need-text-reply-requires
-text-reply-requires c κs = search rules
+text_reply-reply-requires : tie.Need-text_reply-reply-requires
+text_reply-reply-requires c κs = search rules
 
-enum-known-reply : tie.Need-enum-known-reply
-enum-known-reply c = search rules
+enum_known-reply : tie.Need-enum_known-reply
+enum_known-reply c = search rules
 
-put-refusal-requires : tie.Need-put-refusal-requires
+put_refusal-requires : tie.Need-put_refusal-requires
 unfolding place_of
-put-refusal-requires c κs =
-    let told = c.before.before in
-    let reply = told.before.before in
-    (reply.before.before.before.requires, rw told.reply.given.1 at reply.text-reply.ensures.1)
+put_refusal-requires c κs =
+    let told = c.before in
+    let reply = told.before in
+    (reply.before.before.before.requires, rw told.in-Refused.is at reply.text_reply-reply.ensures.1)
 
-same_length : tie.Need-same-length
-same_length c = search rules
+shape_of-page-in-Refused : tie.Need-shape_of-page-in-Refused
+shape_of-page-in-Refused c = search rules
 
-returns : tie.Need-returns
-returns c =
+returns-in-Refused : tie.Need-returns-in-Refused
+returns-in-Refused c =
     let call = c.before.before in
-    let told = call.before.before.before in
-    let reply = told.before.before in
-    let w = call.put-refusal.ensures in
-    record { few = w.few; is = w.is ∙ answer_refused _ _ (sym reply.text-reply.ensures.0 ∙ told.reply.given.1) }
+    let told = call.before.before in
+    let reply = told.before in
+    let w = call.put_refusal.ensures in
+    record { few = w.few; is = w.is ∙ answer_refused _ _ (sym reply.text_reply-reply.ensures.0 ∙ told.in-Refused.is) }
 
-enum_told : tie.Need-enum-told
-enum_told c = search rules
+enum_told-1 : tie.Need-enum_told-1
+enum_told-1 c = search rules
 
-message-bits-requires : tie.Need-message-bits-requires
-message-bits-requires c κs = search rules
+message_bits-k-requires : tie.Need-message_bits-k-requires
+message_bits-k-requires c κs = search rules
 
-decode-sheet-requires : tie.Need-decode-sheet-requires
-decode-sheet-requires c κs =
+decode_sheet-requires : tie.Need-decode_sheet-requires
+decode_sheet-requires c κs =
     let counted = c.before in
     let done = counted.before in
-    let start = done.before.before.before.before.before in
-    (start.requires, (is-done done, counted.message-bits.ensures))
+    let start = done.before.before.before.before in
+    (start.requires, (is-done done, counted.message_bits-k.ensures))
 
-same-length-2 : tie.Need-same-length-2
-same-length-2 c = search rules
+shape_of-page : tie.Need-shape_of-page
+shape_of-page c = search rules
 
-returns-2 : tie.Need-returns-2
-returns-2 c = search rules
+returns : tie.Need-returns
+returns c = search rules
 
-pub write-answer-spec : {M : Type 1} → statement M
-write-answer-spec =
+pub write_answer_spec : {M : Type 1} → statement M
+write_answer_spec =
     tie.close
     (tie.spec
-    text-reply-requires
-    enum-known-reply
-    put-refusal-requires
-    same_length
-    returns
-    enum_told
-    message-bits-requires
-    decode-sheet-requires
-    same-length-2
-    returns-2)
+    text_reply-reply-requires
+    enum_known-reply
+    put_refusal-requires
+    shape_of-page-in-Refused
+    returns-in-Refused
+    enum_told-1
+    message_bits-k-requires
+    decode_sheet-requires
+    shape_of-page
+    returns)

@@ -4,54 +4,54 @@ use borrow.Author.Rules.{rules}
 use Rattle.sheet.proofs.decoding.decode_house.Statement.{statement}
 use Rattle.sheet.proofs.decoding.decode_house.Tie as tie
 
-house-next-requires : tie.Need-house-next-requires
-house-next-requires c κs = search rules
+house_next-next-requires : tie.Need-house_next-next-requires
+house_next-next-requires c κs = search rules
 
-house-words-requires : tie.Need-house-words-requires
-house-words-requires c κs = search rules
+house_words-words-requires : tie.Need-house_words-words-requires
+house_words-words-requires c κs = search rules
 
-slice-aggregate-decode : tie.Need-slice-aggregate-decode
-slice-aggregate-decode c = search rules
+slice_bounds-decode-end : tie.Need-slice_bounds-decode-end
+slice_bounds-decode-end c = search rules
 
-slice-aggregate-decode-2 : tie.Need-slice-aggregate-decode-2
-slice-aggregate-decode-2 c = search rules
+slice_bounds-decode-end-2 : tie.Need-slice_bounds-decode-end-2
+slice_bounds-decode-end-2 c = search rules
 
-slice-aggregate-decode-3 : tie.Need-slice-aggregate-decode-3
-slice-aggregate-decode-3 c = search rules
+slice_bounds-decode-end-3 : tie.Need-slice_bounds-decode-end-3
+slice_bounds-decode-end-3 c = search rules
 
 decode-requires : tie.Need-decode-requires
 decode-requires c κs = search rules
 
-same_length : tie.Need-same-length
-same_length c = search rules
+shape_of-bits : tie.Need-shape_of-bits
+shape_of-bits c = search rules
 
-same-length-2 : tie.Need-same-length-2
-same-length-2 c = search rules
+shape_of-margins : tie.Need-shape_of-margins
+shape_of-margins c = search rules
 
-same-length-3 : tie.Need-same-length-3
-same-length-3 c = search rules
+shape_of-extrinsics : tie.Need-shape_of-extrinsics
+shape_of-extrinsics c = search rules
 
-same-length-4 : tie.Need-same-length-4
-same-length-4 c = search rules
+shape_of-work : tie.Need-shape_of-work
+shape_of-work c = search rules
 
 returns : tie.Need-returns
 returns c =
     let call = c.before.before.before.before.before in
     let words = call.before.before.before.before.before.before.before.before in
-    rw (words.house-words.ensures, words.before.house-next.ensures) at call.decode.ensures
+    rw (words.house_words-words.ensures, words.house_next-next.ensures) at call.decode.ensures
 
-pub decode-house-spec : {M : Type 1} → statement M
-decode-house-spec =
+pub decode_house_spec : {M : Type 1} → statement M
+decode_house_spec =
     tie.close
     (tie.spec
-    house-next-requires
-    house-words-requires
-    slice-aggregate-decode
-    slice-aggregate-decode-2
-    slice-aggregate-decode-3
+    house_next-next-requires
+    house_words-words-requires
+    slice_bounds-decode-end
+    slice_bounds-decode-end-2
+    slice_bounds-decode-end-3
     decode-requires
-    same_length
-    same-length-2
-    same-length-3
-    same-length-4
+    shape_of-bits
+    shape_of-margins
+    shape_of-extrinsics
+    shape_of-work
     returns)

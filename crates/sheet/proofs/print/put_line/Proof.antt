@@ -9,26 +9,26 @@ use Rattle.sheet.specs.laws.Printing.{wrote_then, line_text}
 use Rattle.sheet.proofs.print.put_line.Statement.{statement}
 use Rattle.sheet.proofs.print.put_line.Tie as tie
 
-cast-put-number : tie.Need-overflow-cast-put-number
-cast-put-number c = search rules
+overflow_cast-k : tie.Need-overflow_cast-k
+overflow_cast-k c = search rules
 
-put-number-requires : tie.Need-put-number-requires
-put-number-requires c κs = search rules
+put_number-one-requires : tie.Need-put_number-one-requires
+put_number-one-requires c κs = search rules
 
-cast-put-number-2 : tie.Need-overflow-cast-put-number-2
-cast-put-number-2 c = search rules
+overflow_cast-bit : tie.Need-overflow_cast-bit
+overflow_cast-bit c = search rules
 
-put-number-requires-2 : tie.Need-put-number-requires-2
-put-number-requires-2 c κs = search rules
+put_number-two-requires : tie.Need-put_number-two-requires
+put_number-two-requires c κs = search rules
 
-put-number-requires-3 : tie.Need-put-number-requires-3
-put-number-requires-3 c κs = search rules
+put_number-three-requires : tie.Need-put_number-three-requires
+put_number-three-requires c κs = search rules
 
-put-number-requires-4 : tie.Need-put-number-requires-4
-put-number-requires-4 c κs = search rules
+put_number-requires : tie.Need-put_number-requires
+put_number-requires c κs = search rules
 
-same_length : tie.Need-same-length
-same_length c = search rules
+shape_of-page : tie.Need-shape_of-page
+shape_of-page c = search rules
 
 returns : tie.Need-returns
 unfolding line_text
@@ -43,18 +43,18 @@ returns c =
     let extrinsic-fits = start.ranges.extrinsic in
     let w =
     rw (to_z_pos w32 {n = a.k} (omega (arith, start.requires.1)), to_z_pos w32 {n = a.bit} (omega (arith, start.ranges.bit.fits)))
-    at (wrote_then (wrote_then (wrote_then one.put-number.ensures two.put-number2.ensures) three.put-number3.ensures) four.put-number4.ensures) in
+    at (wrote_then (wrote_then (wrote_then one.put_number-one.ensures two.put_number-two.ensures) three.put_number-three.ensures) four.put_number.ensures) in
     simp plain at w
 
-pub put-line-spec : {M : Type 1} → statement M
-put-line-spec =
+pub put_line_spec : {M : Type 1} → statement M
+put_line_spec =
     tie.close
     (tie.spec
-    cast-put-number
-    put-number-requires
-    cast-put-number-2
-    put-number-requires-2
-    put-number-requires-3
-    put-number-requires-4
-    same_length
+    overflow_cast-k
+    put_number-one-requires
+    overflow_cast-bit
+    put_number-two-requires
+    put_number-three-requires
+    put_number-requires
+    shape_of-page
     returns)

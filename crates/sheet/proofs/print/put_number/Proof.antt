@@ -14,20 +14,20 @@ use Rattle.text.specs.Lent.{digits_of}
 use Rattle.sheet.proofs.print.put_number.Statement.{statement}
 use Rattle.sheet.proofs.print.put_number.Tie as tie
 
-decimal-requires : tie.Need-decimal-requires
-decimal-requires c κs = search rules
+decimal-digits-requires : tie.Need-decimal-digits-requires
+decimal-digits-requires c κs = search rules
 
-put-front-requires : tie.Need-put-front-requires
-put-front-requires c κs = search rules
+put_front-next-requires : tie.Need-put_front-next-requires
+put_front-next-requires c κs = search rules
 
-slice-write-page : tie.Need-slice-write-page
-slice-write-page c = search rules
+bounds-page-next : tie.Need-bounds-page-next
+bounds-page-next c = search rules
 
-add-result : tie.Need-overflow-add-result
-add-result c = search rules
+overflow_add-result : tie.Need-overflow_add-result
+overflow_add-result c = search rules
 
-same_length : tie.Need-same-length
-same_length c = search rules
+shape_of-page : tie.Need-shape_of-page
+shape_of-page c = search rules
 
 returns : tie.Need-returns
 returns c =
@@ -35,19 +35,19 @@ returns c =
     let dec = call.before.before.before in
     let start = dec.before.before in
     let a = start.args in
-    let text = digits_of dec.decimal.result in
-    let is : text ≡ decimal a.z = rw (to_z-of_z start.ranges.z) at dec.decimal.ensures.0 in
-    let fits : call.put_front.result < length call.put_front.new.0 = omega (arith, call.put_front.ensures.few, call.put_front.auto.0, start.requires) in
+    let text = digits_of dec.decimal-digits.result in
+    let is : text ≡ decimal a.z = rw (to_z-of_z start.ranges.z) at dec.decimal-digits.ensures.0 in
+    let fits : call.put_front-next.result < length call.put_front-next.new.page = omega (arith, call.put_front-next.ensures.few, call.put_front-next.auto.page, start.requires) in
     record {
-      few = omega (arith, call.put_front.ensures.few);
+      few = omega (arith, call.put_front-next.ensures.few);
       is =
-          rw add-one (take-suc-set call.put_front.new.0 call.put_front.result a.end fits)
-          ∙ ap (λ (l : List ℕ). l ++ (a.end ∷ [])) call.put_front.ensures.is
+          rw add-one (take-suc-set call.put_front-next.new.page call.put_front-next.result a.end fits)
+          ∙ ap (λ (l : List ℕ). l ++ (a.end ∷ [])) call.put_front-next.ensures.is
           ∙ append_assoc (take a.at a.page.now) text (a.end ∷ [])
           ∙ ap (λ (t : List ℕ). take a.at a.page.now ++ (t ++ (a.end ∷ []))) is;
     }
 
-pub put-number-spec : {M : Type 1} → statement M
-put-number-spec =
+pub put_number_spec : {M : Type 1} → statement M
+put_number_spec =
     tie.close
-    (tie.spec decimal-requires put-front-requires slice-write-page add-result same_length returns)
+    (tie.spec decimal-digits-requires put_front-next-requires bounds-page-next overflow_add-result shape_of-page returns)

@@ -14,36 +14,33 @@ use Rattle.sheet.specs.laws.Printing.{wrote_then, pasted_wrote, entry, refusal_i
 use Rattle.sheet.proofs.print.put_refusal.Statement.{statement}
 use Rattle.sheet.proofs.print.put_refusal.Tie as tie
 
-number-of-refusal-requires : tie.Need-number-of-refusal-requires
-number-of-refusal-requires c κs = search rules
+number_of_refusal-number-requires : tie.Need-number_of_refusal-number-requires
+number_of_refusal-number-requires c κs = search rules
 
-cast-number : tie.Need-overflow-cast-number
-cast-number c =
-    let small : c.number-of-refusal.result ≤ 255 = rw c.number-of-refusal.ensures (number_small c.before.before.args.why) in
+overflow_cast-number : tie.Need-overflow_cast-number
+overflow_cast-number c =
+    let small : c.number_of_refusal-number.result ≤ 255 = rw c.number_of_refusal-number.ensures (number_small c.args.why) in
     simp ints (omega arith)
 
-place-of-refusal-requires : tie.Need-place-of-refusal-requires
-place-of-refusal-requires c κs = search rules
+place_of_refusal-line-requires : tie.Need-place_of_refusal-line-requires
+place_of_refusal-line-requires c κs = search rules
 
-cast-line : tie.Need-overflow-cast-line
-cast-line c =
-    let small : c.place-of-refusal.result ≤ 516 = rw c.place-of-refusal.ensures c.before.before.before.requires.1 in
+overflow_cast-line : tie.Need-overflow_cast-line
+overflow_cast-line c =
+    let small : c.place_of_refusal-line.result ≤ 516 = rw c.place_of_refusal-line.ensures c.requires.1 in
     simp ints (omega arith)
 
-slice-aggregate-put : tie.Need-slice-aggregate-put
-slice-aggregate-put c = search rules
+put-one-requires : tie.Need-put-one-requires
+put-one-requires c κs = search rules
 
-put-requires : tie.Need-put-requires
-put-requires c κs = search rules
+put_number-two-requires : tie.Need-put_number-two-requires
+put_number-two-requires c κs = search rules
 
-put-number-requires : tie.Need-put-number-requires
-put-number-requires c κs = search rules
+put_number-requires : tie.Need-put_number-requires
+put_number-requires c κs = search rules
 
-put-number-requires-2 : tie.Need-put-number-requires-2
-put-number-requires-2 c κs = search rules
-
-same_length : tie.Need-same-length
-same_length c = search rules
+shape_of-page : tie.Need-shape_of-page
+shape_of-page c = search rules
 
 returns : tie.Need-returns
 unfolding bytes
@@ -51,27 +48,26 @@ returns c =
     let two = c.before.before in
     let one = two.before.before.before.before in
     let header = one.before.before.before.before in
-    let line-told = header.before.before.before in
+    let line-told = header.before.before.before.before in
     let number-told = line-told.before in
-    let number = to_z-of_z (cast-number number-told) ∙ ap pos number-told.number-of-refusal.ensures in
-    let line = to_z-of_z (cast-line line-told) ∙ ap pos line-told.place-of-refusal.ensures in
-    let w = wrote_then (wrote_then (pasted_wrote 13 (omega arith) (omega arith) header.put.ensures) one.put-number.ensures) two.put-number2.ensures in
+    let number = to_z-of_z (overflow_cast-number number-told) ∙ ap pos number-told.number_of_refusal-number.ensures in
+    let line = to_z-of_z (overflow_cast-line line-told) ∙ ap pos line-told.place_of_refusal-line.ensures in
+    let w = wrote_then (wrote_then (pasted_wrote 13 (omega arith) (omega arith) header.put-one.ensures) one.put_number-two.ensures) two.put_number.ensures in
     record {
       few = omega (arith, w.few);
-      is = w.is ∙ ap₂ (λ (n l : ℤ). bytes "refused line\n" ++ entry n 32 ++ entry l 10) number line ∙ refusal_is number-told.before.before.args.why;
+      is = w.is ∙ ap₂ (λ (n l : ℤ). bytes "refused line\n" ++ entry n 32 ++ entry l 10) number line ∙ refusal_is c.args.why;
     }
 
-pub put-refusal-spec : {M : Type 1} → statement M
-put-refusal-spec =
+pub put_refusal_spec : {M : Type 1} → statement M
+put_refusal_spec =
     tie.close
     (tie.spec
-    number-of-refusal-requires
-    cast-number
-    place-of-refusal-requires
-    cast-line
-    slice-aggregate-put
-    put-requires
-    put-number-requires
-    put-number-requires-2
-    same_length
+    number_of_refusal-number-requires
+    overflow_cast-number
+    place_of_refusal-line-requires
+    overflow_cast-line
+    put-one-requires
+    put_number-two-requires
+    put_number-requires
+    shape_of-page
     returns)

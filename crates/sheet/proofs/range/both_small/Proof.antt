@@ -6,17 +6,17 @@ use borrow.Author.Rules.{rules}
 use Rattle.sheet.proofs.range.both_small.Statement.{statement}
 use Rattle.sheet.proofs.range.both_small.Tie as tie
 
-small-at-requires : tie.Need-small-at-requires
-small-at-requires c κs = search rules
+small_at-requires : tie.Need-small_at-requires
+small_at-requires c κs = search rules
+
+returns-then-not-small_at : tie.Need-returns-then-not-small_at
+returns-then-not-small_at c = rw (sym c.small_at.ensures ∙ not-true _ c.if-not-small_at.true-raw)
+
+small_at-requires-2 : tie.Need-small_at-requires-2
+small_at-requires-2 c κs = search rules
 
 returns : tie.Need-returns
-returns c = rw (sym c.before.Small-at.ensures ∙ not-true _ c.if1.true)
+returns c = rw (sym c.small_at.ensures ∙ not-false _ c.if-not-small_at.false-raw) c.small_at-2.ensures
 
-small-at-requires-2 : tie.Need-small-at-requires-2
-small-at-requires-2 c κs = search rules
-
-returns-2 : tie.Need-returns-2
-returns-2 c = rw (sym c.before.before.Small-at.ensures ∙ not-false _ c.before.if1.false) c.small-at2.ensures
-
-pub both-small-spec : {M : Type 1} → statement M
-both-small-spec = tie.close (tie.spec small-at-requires returns small-at-requires-2 returns-2)
+pub both_small_spec : {M : Type 1} → statement M
+both_small_spec = tie.close (tie.spec small_at-requires returns-then-not-small_at small_at-requires-2 returns)

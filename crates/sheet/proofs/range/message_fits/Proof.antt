@@ -7,27 +7,27 @@ use Rattle.sheet.specs.laws.Range.{pair_outside, pair_inside, one_fits}
 use Rattle.sheet.proofs.range.message_fits.Statement.{statement}
 use Rattle.sheet.proofs.range.message_fits.Tie as tie
 
-add-both-small : tie.Need-overflow-add-both-small
-add-both-small c = search rules
+overflow_add-at : tie.Need-overflow_add-at
+overflow_add-at c = search rules
 
-both-small-requires : tie.Need-both-small-requires
-both-small-requires c κs = search rules
+both_small-requires : tie.Need-both_small-requires
+both_small-requires c κs = search rules
+
+returns-then-not-both_small : tie.Need-returns-then-not-both_small
+returns-then-not-both_small c = sym (pair_outside _ _ _ (sym c.both_small.ensures ∙ not-true _ c.if-not-both_small.true-raw))
+
+overflow_add-at-2 : tie.Need-overflow_add-at-2
+overflow_add-at-2 c = search rules
+
+small_at-requires : tie.Need-small_at-requires
+small_at-requires c κs = search rules
 
 returns : tie.Need-returns
-returns c = sym (pair_outside _ _ _ (sym c.before.both_small.ensures ∙ not-true _ c.if1.true))
-
-add-small-at : tie.Need-overflow-add-small-at
-add-small-at c = search rules
-
-small-at-requires : tie.Need-small-at-requires
-small-at-requires c κs = search rules
-
-returns-2 : tie.Need-returns-2
-returns-2 c =
+returns c =
     let first = c.before in
-    c.Small-at.ensures ∙ sym (one_fits _) ∙ sym (pair_inside _ _ _ (sym first.before.both_small.ensures ∙ not-false _ first.if1.false))
+    c.small_at.ensures ∙ sym (one_fits _) ∙ sym (pair_inside _ _ _ (sym first.both_small.ensures ∙ not-false _ first.if-not-both_small.false-raw))
 
-pub message-fits-spec : {M : Type 1} → statement M
-message-fits-spec =
+pub message_fits_spec : {M : Type 1} → statement M
+message_fits_spec =
     tie.close
-    (tie.spec add-both-small both-small-requires returns add-small-at small-at-requires returns-2)
+    (tie.spec overflow_add-at both_small-requires returns-then-not-both_small overflow_add-at-2 small_at-requires returns)

@@ -11,21 +11,21 @@ use Rattle.integers.specs.Integers.{inside}
 use Rattle.sheet.proofs.range.small_at.Statement.{statement}
 use Rattle.sheet.proofs.range.small_at.Tie as tie
 
-mul-is-small : tie.Need-overflow-mul-is-small
-mul-is-small c = search rules
+offset_bounds-values-at : tie.Need-offset_bounds-values-at
+offset_bounds-values-at c = search rules
 
-shared-slice-copy-out-is-small : tie.Need-shared-slice-copy-out-is-small
-shared-slice-copy-out-is-small c = search rules
+bounds-values-at : tie.Need-bounds-values-at
+bounds-values-at c = search rules
 
-is-small-requires : tie.Need-is-small-requires
-is-small-requires c κs = search rules
+is_small-requires : tie.Need-is_small-requires
+is_small-requires c κs = search rules
 
 returns : tie.Need-returns
 returns c =
-    let args = c.before.before.args in
+    let args = c.args in
     let value : ℤ = get_or args.values.now args.at (pos 0) in
     let fits : SFits w32 value = search rules in
-    c.is-small.ensures ∙ ap (inside 1023) (to_z-of_z fits)
+    c.is_small.ensures ∙ ap (inside 1023) (to_z-of_z fits)
 
-pub small-at-spec : {M : Type 1} → statement M
-small-at-spec = tie.close (tie.spec mul-is-small shared-slice-copy-out-is-small is-small-requires returns)
+pub small_at_spec : {M : Type 1} → statement M
+small_at_spec = tie.close (tie.spec offset_bounds-values-at bounds-values-at is_small-requires returns)

@@ -7,30 +7,30 @@ use Rattle.sheet.specs.laws.Range.{pair_outside, pair_inside, pair_fits}
 use Rattle.sheet.proofs.range.tail_fits.Statement.{statement}
 use Rattle.sheet.proofs.range.tail_fits.Tie as tie
 
-add-both-small : tie.Need-overflow-add-both-small
-add-both-small c = search rules
+overflow_add-at : tie.Need-overflow_add-at
+overflow_add-at c = search rules
 
-both-small-requires : tie.Need-both-small-requires
-both-small-requires c κs = search rules
+both_small-requires : tie.Need-both_small-requires
+both_small-requires c κs = search rules
+
+returns-then-not-both_small : tie.Need-returns-then-not-both_small
+returns-then-not-both_small c = sym (pair_outside _ _ _ (sym c.both_small.ensures ∙ not-true _ c.if-not-both_small.true-raw))
+
+overflow_add-at-2 : tie.Need-overflow_add-at-2
+overflow_add-at-2 c = search rules
+
+overflow_add-at-3 : tie.Need-overflow_add-at-3
+overflow_add-at-3 c = search rules
+
+both_small-requires-2 : tie.Need-both_small-requires-2
+both_small-requires-2 c κs = search rules
 
 returns : tie.Need-returns
-returns c = sym (pair_outside _ _ _ (sym c.before.both_small.ensures ∙ not-true _ c.if1.true))
-
-add-both-small-2 : tie.Need-overflow-add-both-small-2
-add-both-small-2 c = search rules
-
-add-both-small-3 : tie.Need-overflow-add-both-small-3
-add-both-small-3 c = search rules
-
-both-small-requires-2 : tie.Need-both-small-requires-2
-both-small-requires-2 c κs = search rules
-
-returns-2 : tie.Need-returns-2
-returns-2 c =
+returns c =
     let first = c.before in
-    c.both-small2.ensures ∙ sym (pair_fits _ _) ∙ sym (pair_inside _ _ _ (sym first.before.both_small.ensures ∙ not-false _ first.if1.false))
+    c.both_small-2.ensures ∙ sym (pair_fits _ _) ∙ sym (pair_inside _ _ _ (sym first.both_small.ensures ∙ not-false _ first.if-not-both_small.false-raw))
 
-pub tail-fits-spec : {M : Type 1} → statement M
-tail-fits-spec =
+pub tail_fits_spec : {M : Type 1} → statement M
+tail_fits_spec =
     tie.close
-    (tie.spec add-both-small both-small-requires returns add-both-small-2 add-both-small-3 both-small-requires-2 returns-2)
+    (tie.spec overflow_add-at both_small-requires returns-then-not-both_small overflow_add-at-2 overflow_add-at-3 both_small-requires-2 returns)

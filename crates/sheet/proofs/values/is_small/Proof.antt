@@ -7,14 +7,14 @@ use Rattle.integers.specs.laws.Parts.{parts}
 use Rattle.sheet.proofs.values.is_small.Statement.{statement}
 use Rattle.sheet.proofs.values.is_small.Tie as tie
 
+returns-then-v-ltminus1023 : tie.Need-returns-then-v-ltminus1023
+returns-then-v-ltminus1023 c = sym (simp ints (omega (arith, parts)))
+
+returns-then-v-gt1023 : tie.Need-returns-then-v-gt1023
+returns-then-v-gt1023 c = sym (simp ints (omega (arith, parts)))
+
 returns : tie.Need-returns
 returns c = sym (simp ints (omega (arith, parts)))
 
-returns-2 : tie.Need-returns-2
-returns-2 c = sym (simp ints (omega (arith, parts)))
-
-returns-3 : tie.Need-returns-3
-returns-3 c = sym (simp ints (omega (arith, parts)))
-
-pub is-small-spec : {M : Type 1} → statement M
-is-small-spec = tie.close (tie.spec returns returns-2 returns-3)
+pub is_small_spec : {M : Type 1} → statement M
+is_small_spec = tie.close (tie.spec returns-then-v-ltminus1023 returns-then-v-gt1023 returns)

@@ -9,33 +9,33 @@ use Rattle.sheet.specs.laws.Receiving.{two_stores}
 use Rattle.sheet.proofs.values.put2.Statement.{statement}
 use Rattle.sheet.proofs.values.put2.Tie as tie
 
-mul-a : tie.Need-overflow-mul-a
-mul-a c = search rules
+offset_bounds-values-at : tie.Need-offset_bounds-values-at
+offset_bounds-values-at c = search rules
 
-slice-set-from-a : tie.Need-slice-set-from-a
-slice-set-from-a c = search rules
+bounds-values-at : tie.Need-bounds-values-at
+bounds-values-at c = search rules
 
-add-b : tie.Need-overflow-add-b
-add-b c = search rules
+overflow_add-b : tie.Need-overflow_add-b
+overflow_add-b c = search rules
 
-mul-b : tie.Need-overflow-mul-b
-mul-b c = search rules
+offset_bounds-values-at-2 : tie.Need-offset_bounds-values-at-2
+offset_bounds-values-at-2 c = search rules
 
-slice-set-from-b : tie.Need-slice-set-from-b
-slice-set-from-b c = simp length-set (omega arith)
+bounds-values-at-2 : tie.Need-bounds-values-at-2
+bounds-values-at-2 c = simp length-set (omega arith)
 
-add-result : tie.Need-overflow-add-result
-add-result c = search rules
+overflow_add-result : tie.Need-overflow_add-result
+overflow_add-result c = search rules
 
-same_length : tie.Need-same-length
-same_length c = search rules
+shape_of-values : tie.Need-shape_of-values
+shape_of-values c = search rules
 
 returns : tie.Need-returns
 returns c =
     let a = c.args in
     (refl, rw (to_z-of_z c.ranges.a, to_z-of_z c.ranges.b) (two_stores a.values.now a.at a.a a.b c.requires))
 
-pub put2-spec : {M : Type 1} → statement M
-put2-spec =
+pub put2_spec : {M : Type 1} → statement M
+put2_spec =
     tie.close
-    (tie.spec mul-a slice-set-from-a add-b mul-b slice-set-from-b add-result same_length returns)
+    (tie.spec offset_bounds-values-at bounds-values-at overflow_add-b offset_bounds-values-at-2 bounds-values-at-2 overflow_add-result shape_of-values returns)

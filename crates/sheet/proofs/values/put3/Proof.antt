@@ -8,49 +8,49 @@ use Rattle.sheet.specs.laws.Receiving.{three_stores}
 use Rattle.sheet.proofs.values.put3.Statement.{statement}
 use Rattle.sheet.proofs.values.put3.Tie as tie
 
-mul-a : tie.Need-overflow-mul-a
-mul-a c = search rules
+offset_bounds-values-at : tie.Need-offset_bounds-values-at
+offset_bounds-values-at c = search rules
 
-slice-set-from-a : tie.Need-slice-set-from-a
-slice-set-from-a c = search rules
+bounds-values-at : tie.Need-bounds-values-at
+bounds-values-at c = search rules
 
-add-b : tie.Need-overflow-add-b
-add-b c = search rules
+overflow_add-b : tie.Need-overflow_add-b
+overflow_add-b c = search rules
 
-mul-b : tie.Need-overflow-mul-b
-mul-b c = search rules
+offset_bounds-values-at-2 : tie.Need-offset_bounds-values-at-2
+offset_bounds-values-at-2 c = search rules
 
-slice-set-from-b : tie.Need-slice-set-from-b
-slice-set-from-b c = simp length-set (omega arith)
+bounds-values-at-2 : tie.Need-bounds-values-at-2
+bounds-values-at-2 c = simp length-set (omega arith)
 
-add-c : tie.Need-overflow-add-c
-add-c c = search rules
+overflow_add-c : tie.Need-overflow_add-c
+overflow_add-c c = search rules
 
-mul-c : tie.Need-overflow-mul-c
-mul-c c = search rules
+offset_bounds-values-at-3 : tie.Need-offset_bounds-values-at-3
+offset_bounds-values-at-3 c = search rules
 
-slice-set-from-c : tie.Need-slice-set-from-c
-slice-set-from-c c = simp length-set (omega arith)
+bounds-values-at-3 : tie.Need-bounds-values-at-3
+bounds-values-at-3 c = simp length-set (omega arith)
 
-same_length : tie.Need-same-length
-same_length c = search rules
+shape_of-values : tie.Need-shape_of-values
+shape_of-values c = search rules
 
 returns : tie.Need-returns
 returns c =
     let a = c.args in
     rw (to_z-of_z c.ranges.a, to_z-of_z c.ranges.b, to_z-of_z c.ranges.c) (three_stores a.values.now a.at a.a a.b a.c c.requires)
 
-pub put3-spec : {M : Type 1} → statement M
-put3-spec =
+pub put3_spec : {M : Type 1} → statement M
+put3_spec =
     tie.close
     (tie.spec
-    mul-a
-    slice-set-from-a
-    add-b
-    mul-b
-    slice-set-from-b
-    add-c
-    mul-c
-    slice-set-from-c
-    same_length
+    offset_bounds-values-at
+    bounds-values-at
+    overflow_add-b
+    offset_bounds-values-at-2
+    bounds-values-at-2
+    overflow_add-c
+    offset_bounds-values-at-3
+    bounds-values-at-3
+    shape_of-values
     returns)

@@ -10,8 +10,8 @@ use Rattle.sheet.proofs.values.put_first.Tie as tie
 put2-requires : tie.Need-put2-requires
 put2-requires c κs = search rules
 
-same_length : tie.Need-same-length
-same_length c = search rules
+shape_of-values : tie.Need-shape_of-values
+shape_of-values c = search rules
 
 returns : tie.Need-returns
 returns c =
@@ -21,5 +21,5 @@ returns c =
     let g : SFits w32 start.args.row.par = search rules in
     rw (to_z-of_z f, to_z-of_z g) at call.put2.ensures
 
-pub put-first-spec : {M : Type 1} → statement M
-put-first-spec = tie.close (tie.spec put2-requires same_length returns)
+pub put_first_spec : {M : Type 1} → statement M
+put_first_spec = tie.close (tie.spec put2-requires shape_of-values returns)

@@ -10,20 +10,20 @@ use Rattle.sheet.specs.laws.Receiving.{four_pairs}
 use Rattle.sheet.proofs.values.put_tails.Statement.{statement}
 use Rattle.sheet.proofs.values.put_tails.Tie as tie
 
-put-first-requires : tie.Need-put-first-requires
-put-first-requires c κs = search rules
+put_first-one-requires : tie.Need-put_first-one-requires
+put_first-one-requires c κs = search rules
 
-put-first-requires-2 : tie.Need-put-first-requires-2
-put-first-requires-2 c κs = search rules
+put_first-two-requires : tie.Need-put_first-two-requires
+put_first-two-requires c κs = search rules
 
-put-second-requires : tie.Need-put-second-requires
-put-second-requires c κs = search rules
+put_second-three-requires : tie.Need-put_second-three-requires
+put_second-three-requires c κs = search rules
 
-put-second-requires-2 : tie.Need-put-second-requires-2
-put-second-requires-2 c κs = search rules
+put_second-requires : tie.Need-put_second-requires
+put_second-requires c κs = search rules
 
-same_length : tie.Need-same-length
-same_length c = search rules
+shape_of-values : tie.Need-shape_of-values
+shape_of-values c = search rules
 
 returns : tie.Need-returns
 returns c =
@@ -34,21 +34,21 @@ returns c =
     let start = one.before.before in
     let a = start.args.a in
     let b = start.args.b in
-    let all : four.put-second2.result ≡ length four.put-second2.new.0 =
-    omega (arith, four.put-second2.ensures.0, four.put-second2.auto.0, three.put_second.ensures.0, three.put_second.auto.0, two.put-first2.ensures.0, two.put-first2.auto.0, one.put_first.ensures.0, one.put_first.auto.0, start.requires) in
-    sym (take-length four.put-second2.new.0)
-    ∙ ap (λ (n : ℕ). take n four.put-second2.new.0) (sym all)
-    ∙ four.put-second2.ensures.1
-    ∙ rw (three.put_second.ensures.1, two.put-first2.ensures.1, one.put_first.ensures.1)
+    let all : four.put_second.result ≡ length four.put_second.new.values =
+    omega (arith, four.put_second.ensures.0, four.put_second.auto.values, three.put_second-three.ensures.0, three.put_second-three.auto.values, two.put_first-two.ensures.0, two.put_first-two.auto.values, one.put_first-one.ensures.0, one.put_first-one.auto.values, start.requires) in
+    sym (take-length four.put_second.new.values)
+    ∙ ap (λ (n : ℕ). take n four.put_second.new.values) (sym all)
+    ∙ four.put_second.ensures.1
+    ∙ rw (three.put_second-three.ensures.1, two.put_first-two.ensures.1, one.put_first-one.ensures.1)
     (four_pairs (take start.args.at start.args.values.now) a.sys a.par b.sys b.par a.sys2 a.par2 b.sys2 b.par2)
 
-pub put-tails-spec : {M : Type 1} → statement M
-put-tails-spec =
+pub put_tails_spec : {M : Type 1} → statement M
+put_tails_spec =
     tie.close
     (tie.spec
-    put-first-requires
-    put-first-requires-2
-    put-second-requires
-    put-second-requires-2
-    same_length
+    put_first-one-requires
+    put_first-two-requires
+    put_second-three-requires
+    put_second-requires
+    shape_of-values
     returns)

@@ -7,29 +7,29 @@ use Rattle.sheet.specs.laws.Receiving.{both_tails, values_to}
 use Rattle.sheet.proofs.values.read_frame.Statement.{statement}
 use Rattle.sheet.proofs.values.read_frame.Tie as tie
 
-read-messages-requires : tie.Need-read-messages-requires
-read-messages-requires c κs = search rules
+read_messages-requires : tie.Need-read_messages-requires
+read_messages-requires c κs = search rules
 
-tail-in-requires : tie.Need-tail-in-requires
-tail-in-requires c κs = search rules
+tail_in-a-requires : tie.Need-tail_in-a-requires
+tail_in-a-requires c κs = search rules
 
-add-tail-in : tie.Need-overflow-add-tail-in
-add-tail-in c = search rules
+overflow_add-k : tie.Need-overflow_add-k
+overflow_add-k c = search rules
 
-tail-in-requires-2 : tie.Need-tail-in-requires-2
-tail-in-requires-2 c κs = search rules
+tail_in-b-requires : tie.Need-tail_in-b-requires
+tail_in-b-requires c κs = search rules
 
-mul-put-tails : tie.Need-overflow-mul-put-tails
-mul-put-tails c = search rules
+overflow_mul-k : tie.Need-overflow_mul-k
+overflow_mul-k c = search rules
 
-put-tails-requires : tie.Need-put-tails-requires
-put-tails-requires c κs = search rules
+put_tails-requires : tie.Need-put_tails-requires
+put_tails-requires c κs = search rules
 
-same_length : tie.Need-same-length
-same_length c = search rules
+shape_of-pattern : tie.Need-shape_of-pattern
+shape_of-pattern c = search rules
 
-same-length-2 : tie.Need-same-length-2
-same-length-2 c = search rules
+shape_of-values : tie.Need-shape_of-values
+shape_of-values c = search rules
 
 returns : tie.Need-returns
 unfolding values_to
@@ -38,20 +38,20 @@ returns c =
     let tail2 = call.before.before in
     let tail1 = tail2.before in
     let read = tail1.before.before.before.before in (
-      read.read-messages.ensures.0,
-      call.put-tails.ensures ∙ ap₂ ◌++◌ read.read-messages.ensures.1 (ap₂ both_tails tail1.tail_in_lem.ensures tail2.tail-in2.ensures),
+      read.read_messages.ensures.0,
+      call.put_tails.ensures ∙ ap₂ ◌++◌ read.read_messages.ensures.1 (ap₂ both_tails tail1.tail_in-a.ensures tail2.tail_in-b.ensures),
     )
 
-pub read-frame-spec : {M : Type 1} → statement M
-read-frame-spec =
+pub read_frame_spec : {M : Type 1} → statement M
+read_frame_spec =
     tie.close
     (tie.spec
-    read-messages-requires
-    tail-in-requires
-    add-tail-in
-    tail-in-requires-2
-    mul-put-tails
-    put-tails-requires
-    same_length
-    same-length-2
+    read_messages-requires
+    tail_in-a-requires
+    overflow_add-k
+    tail_in-b-requires
+    overflow_mul-k
+    put_tails-requires
+    shape_of-pattern
+    shape_of-values
     returns)

@@ -20,7 +20,7 @@ use Rattle.sheet.specs.laws.Receiving.{message_read}
 use Rattle.sheet.proofs.values.read_messages.Statement.{statement}
 use Rattle.sheet.proofs.values.read_messages.Tie as tie
 
-abbrev invariant-loop : tie.invariant-loop
+abbrev invariant-loop : tie.invariant-loop-k
 invariant-loop sheet pattern₀ values₀ from₀ k₀ pattern values from k =
     (k ≤ length pattern₀)
     × (length pattern ≡ length pattern₀)
@@ -29,134 +29,134 @@ invariant-loop sheet pattern₀ values₀ from₀ k₀ pattern values from k =
     × Filled 0 (λ j. (message_at sheet j).to) pattern k
     × (take (3 * k) values ≡ joined (message_values sheet) k)
 
-abbrev decreases-loop : tie.decreases-loop
+abbrev decreases-loop : tie.decreases-loop-k
 decreases-loop sheet pattern₀ values₀ from₀ k₀ pattern values from k = length pattern₀ - k
 
-abbrev start : tie.After-next-at2 invariant-loop decreases-loop → tie.Start invariant-loop decreases-loop
+abbrev start : tie.After-next_at-end invariant-loop decreases-loop → tie.Start invariant-loop decreases-loop
 start c = c.before.before.before.before.before.before
 
-bounds : (c : tie.After-next-at2 invariant-loop decreases-loop) → (c.before.before.loop.from ≤ c.next-at2.result) × (c.next-at2.result ≤ length (start c).args.sheet.now)
+bounds : (c : tie.After-next_at-end invariant-loop decreases-loop) → (c.loop-k.from ≤ c.next_at-end.result) × (c.next_at-end.result ≤ length (start c).args.sheet.now)
 bounds c =
-    let b = c.before.before.loop.invariant.3 in
-    (ends_after 10 b c.next-at2.ensures, ends_inside 10 b c.next-at2.ensures)
+    let b = c.loop-k.invariant.3 in
+    (ends_after 10 b c.next_at-end.ensures, ends_inside 10 b c.next_at-end.ensures)
 
 -- a message row is not the last piece
-before : (c : tie.After-next-at2 invariant-loop decreases-loop) → c.next-at2.result < length (start c).args.sheet.now
-before c = ends_before 10 c.before.before.loop.invariant.3 c.next-at2.ensures (omega (arith, (start c).requires.0, c.before.loop-test.true))
+before : (c : tie.After-next_at-end invariant-loop decreases-loop) → c.next_at-end.result < length (start c).args.sheet.now
+before c = ends_before 10 c.loop-k.invariant.3 c.next_at-end.ensures (omega (arith, (start c).requires.0, c.loop-k-test.true))
 
-next-at-requires : tie.Need-next-at-requires invariant-loop decreases-loop
-next-at-requires c κs = search rules
+next_at-from-requires : tie.Need-next_at-from-requires invariant-loop decreases-loop
+next_at-from-requires c κs = search rules
 
-add-from : tie.Need-overflow-add-from invariant-loop decreases-loop
-add-from c = omega (arith, ends_inside 10 (begins_first 10 _) c.next-at.ensures)
+overflow_add-from : tie.Need-overflow_add-from invariant-loop decreases-loop
+overflow_add-from c = omega (arith, ends_inside 10 (begins_first 10 _) c.next_at-from.ensures)
 
-loop-holds : tie.Need-loop-init invariant-loop decreases-loop
+loop-k-init : tie.Need-loop-k-init invariant-loop decreases-loop
 unfolding joined
-loop-holds c =
-    let more : 0 + 1 < length (cut 10 c.before.before.before.args.sheet.now) = omega (arith, c.before.before.before.requires.0) in (
+loop-k-init c =
+    let more : 0 + 1 < length (cut 10 c.args.sheet.now) = omega (arith, c.requires.0) in (
       search rules,
       refl,
       refl,
-      begins_next 10 (begins_first 10 _) c.next-at.ensures (ends_before 10 (begins_first 10 _) c.next-at.ensures more),
+      begins_next 10 (begins_first 10 _) c.next_at-from.ensures (ends_before 10 (begins_first 10 _) c.next_at-from.ensures more),
       filled_none _,
       refl,
     )
 
-next-at-requires-2 : tie.Need-next-at-requires-2 invariant-loop decreases-loop
-next-at-requires-2 c κs = search rules
+next_at-end-requires : tie.Need-next_at-end-requires invariant-loop decreases-loop
+next_at-end-requires c κs = search rules
 
-sub-message-row : tie.Need-overflow-sub-message-row invariant-loop decreases-loop
-sub-message-row c = omega (arith, bounds c)
+slice_bounds-message_row-count : tie.Need-slice_bounds-message_row-count invariant-loop decreases-loop
+slice_bounds-message_row-count c = omega (arith, bounds c)
 
-part-message-row-start : tie.Need-slice-bounds-message-row-start invariant-loop decreases-loop
-part-message-row-start c = omega (arith, bounds c)
+slice_bounds-message_row-start : tie.Need-slice_bounds-message_row-start invariant-loop decreases-loop
+slice_bounds-message_row-start c = omega (arith, bounds c)
 
-part-message-row-end : tie.Need-slice-bounds-message-row-end invariant-loop decreases-loop
-part-message-row-end c = omega (arith, bounds c)
+slice_bounds-message_row-end : tie.Need-slice_bounds-message_row-end invariant-loop decreases-loop
+slice_bounds-message_row-end c = omega (arith, bounds c)
 
-message-row-requires : tie.Need-message-row-requires invariant-loop decreases-loop
-message-row-requires c κs = search rules
+message_row-row-requires : tie.Need-message_row-row-requires invariant-loop decreases-loop
+message_row-row-requires c κs = search rules
 
-mul-pattern : tie.Need-overflow-mul-pattern invariant-loop decreases-loop
-mul-pattern c = search rules
+offset_bounds-pattern-k : tie.Need-offset_bounds-pattern-k invariant-loop decreases-loop
+offset_bounds-pattern-k c = search rules
 
-slice-write-pattern : tie.Need-slice-write-pattern invariant-loop decreases-loop
-slice-write-pattern c = search rules
+bounds-pattern-k : tie.Need-bounds-pattern-k invariant-loop decreases-loop
+bounds-pattern-k c = search rules
 
-mul-put3 : tie.Need-overflow-mul-put3 invariant-loop decreases-loop
-mul-put3 c = search rules
+overflow_mul-k : tie.Need-overflow_mul-k invariant-loop decreases-loop
+overflow_mul-k c = search rules
 
 put3-requires : tie.Need-put3-requires invariant-loop decreases-loop
 put3-requires c κs = search rules
 
-add-from-2 : tie.Need-overflow-add-from-2 invariant-loop decreases-loop
-add-from-2 c = omega (arith, before c.before.before.before.before.before.before.before.before)
+overflow_add-from-in-loop-k : tie.Need-overflow_add-from-in-loop-k invariant-loop decreases-loop
+overflow_add-from-in-loop-k c = omega (arith, before c.before.before.before.before.before.before.before.before)
 
-add-k : tie.Need-overflow-add-k invariant-loop decreases-loop
-add-k c = search rules
+overflow_add-k : tie.Need-overflow_add-k invariant-loop decreases-loop
+overflow_add-k c = search rules
 
-loop-less : tie.Need-loop-smaller invariant-loop decreases-loop
-loop-less c = search rules
+loop-k-smaller : tie.Need-loop-k-smaller invariant-loop decreases-loop
+loop-k-smaller c = search rules
 
-loop-again : tie.Need-loop-preserved invariant-loop decreases-loop
-loop-again c =
+loop-k-preserved : tie.Need-loop-k-preserved invariant-loop decreases-loop
+loop-k-preserved c =
     let put = c.before in
     let row = put.before.before.before.before.before in
     let read = row.before.before in
-    let loop = read.before.before.loop in
+    let loop = read.loop-k in
     let a = (start read).args in
-    let m = row.message_row_lem.result in
-    let f : SFits w32 m.sys = let t = put.before.before.before.struct_told.given in search rules in
-    let g : SFits w32 m.par = let t = put.before.before.struct-told2.given in search rules in
-    let h : SFits w32 m.par2 = let t = put.before.struct-told3.given in search rules in
+    let m = row.message_row-row.result in
+    let f : SFits w32 m.sys = let t = put.struct_told-1.given in search rules in
+    let g : SFits w32 m.par = let t = put.struct_told-in-loop-k-1.given in search rules in
+    let h : SFits w32 m.par2 = let t = put.struct_told-in-loop-k-2-1.given in search rules in
     let more : 3 * (loop.k + 1) ≡ 3 * loop.k + 3 = omega arith in
     let b = loop.invariant.3 in
-    let is = message_read _ _ loop.k _ m (start read).requires.0 (omega (arith, loop.invariant.1, read.before.loop-test.true)) (piece_is 10 b read.next-at2.ensures) row.message_row_lem.ensures in (
+    let is = message_read _ _ loop.k _ m (start read).requires.0 (omega (arith, loop.invariant.1, read.loop-k-test.true)) (piece_is 10 b read.next_at-end.ensures) row.message_row-row.ensures in (
       omega arith,
       simp length-set loop.invariant.1,
-      put.put3.auto.0 ∙ loop.invariant.2,
-      begins_next 10 b read.next-at2.ensures (before read),
+      put.put3.auto.values ∙ loop.invariant.2,
+      begins_next 10 b read.next_at-end.ensures (before read),
       filled_more (omega (arith, loop.invariant.1)) is.to_is loop.invariant.4,
-      ap (λ (n : ℕ). take n put.put3.new.0) more
+      ap (λ (n : ℕ). take n put.put3.new.values) more
           ∙ (rw (to_z-of_z f, to_z-of_z g, to_z-of_z h) at put.put3.ensures)
           ∙ ap₂ ◌++◌ loop.invariant.5 is.values_are
           ∙ sym (joined_more _ loop.k),
     )
 
-same_length : tie.Need-same-length invariant-loop decreases-loop
-same_length c = search rules
+shape_of-pattern : tie.Need-shape_of-pattern invariant-loop decreases-loop
+shape_of-pattern c = search rules
 
-same-length-2 : tie.Need-same-length-2 invariant-loop decreases-loop
-same-length-2 c = search rules
+shape_of-values : tie.Need-shape_of-values invariant-loop decreases-loop
+shape_of-values c = search rules
 
 returns : tie.Need-returns invariant-loop decreases-loop
 returns c =
-    let loop = c.before.loop in
-    let all : loop.k ≡ length c.before.before.before.before.before.args.pattern.now = omega arith in
+    let loop = c.loop-k in
+    let all : loop.k ≡ length c.args.pattern.now = omega arith in
     (filled_all loop.invariant.1 (rw all at loop.invariant.4), rw all at loop.invariant.5)
 
-pub read-messages-spec : {M : Type 1} → statement M
-read-messages-spec =
+pub read_messages_spec : {M : Type 1} → statement M
+read_messages_spec =
     tie.close
     (tie.spec
     invariant-loop
     decreases-loop
-    next-at-requires
-    add-from
-    loop-holds
-    next-at-requires-2
-    sub-message-row
-    part-message-row-start
-    part-message-row-end
-    message-row-requires
-    mul-pattern
-    slice-write-pattern
-    mul-put3
+    next_at-from-requires
+    overflow_add-from
+    loop-k-init
+    next_at-end-requires
+    slice_bounds-message_row-count
+    slice_bounds-message_row-start
+    slice_bounds-message_row-end
+    message_row-row-requires
+    offset_bounds-pattern-k
+    bounds-pattern-k
+    overflow_mul-k
     put3-requires
-    add-from-2
-    add-k
-    loop-less
-    loop-again
-    same_length
-    same-length-2
+    overflow_add-from-in-loop-k
+    overflow_add-k
+    loop-k-smaller
+    loop-k-preserved
+    shape_of-pattern
+    shape_of-values
     returns)
