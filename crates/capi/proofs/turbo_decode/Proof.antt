@@ -9,105 +9,105 @@ use Rattle.capi.specs.laws.Returning.{same_index}
 use Rattle.capi.proofs.turbo_decode.Statement.{statement}
 use Rattle.capi.proofs.turbo_decode.Tie as tie
 
-abbrev begun : tie.After-known-told → tie.Start
-begun c = c.before.before.before.before.before.before.before.before.before
+abbrev begun : tie.In-Known → tie.Start
+begun c = c.before.before.before.before.before.before.before
 
-abbrev first-known : tie.After-known-told2 → tie.After-known-told
-first-known c = c.before.before.before.before
+abbrev first-known : tie.In-Known-end_of → tie.In-Known
+first-known c = c.before.before
 
 -- what the two numbers stand for
-first_is : (c : tie.After-known-told) → end_of (begun c).args.end1 ≡ Known c.before.first.given.0.0
-first_is c = sym c.before.before.before.end_of_lem.ensures ∙ c.before.first.given.1
+first_is : (c : tie.In-Known) → end_of (begun c).args.end1 ≡ Known c.in-Known.first
+first_is c = sym c.end_of.ensures ∙ c.in-Known.is
 
-second_is : (c : tie.After-known-told2) → end_of (begun (first-known c)).args.end2 ≡ Known c.before.second.given.0.0
-second_is c = sym c.before.before.before.end-of2.ensures ∙ c.before.second.given.1
+second_is : (c : tie.In-Known-end_of) → end_of (begun (first-known c)).args.end2 ≡ Known c.in-Known-end_of.second
+second_is c = sym c.end_of-2.ensures ∙ c.in-Known-end_of.is
 
-end-of-requires : tie.Need-end-of-requires
-end-of-requires c κs = search rules
+end_of-requires : tie.Need-end_of-requires
+end_of-requires c κs = search rules
 
-enum-known-first : tie.Need-enum-known-first
-enum-known-first c = search rules
+enum_known-first : tie.Need-enum_known-first
+enum_known-first c = search rules
 
-enum_told : tie.Need-enum-told
-enum_told c = search rules
+enum_told-1 : tie.Need-enum_told-1
+enum_told-1 c = search rules
 
 tell-requires : tie.Need-tell-requires
 tell-requires c κs = search rules
 
-returns : tie.Need-returns
+returns-in_default : tie.Need-returns-in_default
 unfolding for_ending number_of place_of told
-returns c =
-    let unknown = sym c.before.before.before.before.end_of_lem.ensures ∙ c.before.before.enum_told.given.1 in
+returns-in_default c =
+    let unknown = sym c.end_of.ensures ∙ c.in_default.is in
     rw unknown (same_index c.tell.ensures.0 c.tell.ensures.1)
 
-end-of-requires-2 : tie.Need-end-of-requires-2
-end-of-requires-2 c κs = search rules
+end_of-requires-2 : tie.Need-end_of-requires-2
+end_of-requires-2 c κs = search rules
 
-enum-known-second : tie.Need-enum-known-second
-enum-known-second c = search rules
+enum_known-second : tie.Need-enum_known-second
+enum_known-second c = search rules
 
-enum-told-2 : tie.Need-enum-told-2
-enum-told-2 c = search rules
+enum_told-in_default-end_of : tie.Need-enum_told-in_default-end_of
+enum_told-in_default-end_of c = search rules
+
+tell-requires-in_default-end_of : tie.Need-tell-requires-in_default-end_of
+tell-requires-in_default-end_of c κs = search rules
+
+returns-in_default-end_of : tie.Need-returns-in_default-end_of
+unfolding for_ending number_of place_of told
+returns-in_default-end_of c =
+    let asked = c.before.before.before in
+    let unknown = sym asked.end_of-2.ensures ∙ c.in_default-end_of.is in
+    rw (first_is asked.before, unknown) (same_index c.tell-in_default-end_of.ensures.0 c.tell-in_default-end_of.ensures.1)
+
+frame_format-format-requires : tie.Need-frame_format-format-requires
+frame_format-format-requires c κs = search rules
+
+decode-reply-requires : tie.Need-decode-reply-requires
+decode-reply-requires c κs = search rules
 
 tell-requires-2 : tie.Need-tell-requires-2
 tell-requires-2 c κs = search rules
 
-returns-2 : tie.Need-returns-2
-unfolding for_ending number_of place_of told
-returns-2 c =
-    let asked = c.before.before.before.before in
-    let unknown = sym asked.end-of2.ensures ∙ c.before.before.enum-told2.given.1 in
-    rw (first_is asked.before, unknown) (same_index c.tell2.ensures.0 c.tell2.ensures.1)
+shape_of-decided : tie.Need-shape_of-decided
+shape_of-decided c = search rules
 
-frame-format-requires : tie.Need-frame-format-requires
-frame-format-requires c κs = search rules
+shape_of-margins : tie.Need-shape_of-margins
+shape_of-margins c = search rules
 
-decode-requires : tie.Need-decode-requires
-decode-requires c κs = search rules
+shape_of-extrinsics : tie.Need-shape_of-extrinsics
+shape_of-extrinsics c = search rules
 
-tell-requires-3 : tie.Need-tell-requires-3
-tell-requires-3 c κs = search rules
+shape_of-work : tie.Need-shape_of-work
+shape_of-work c = search rules
 
-same_length : tie.Need-same-length
-same_length c = search rules
-
-same-length-2 : tie.Need-same-length-2
-same-length-2 c = search rules
-
-same-length-3 : tie.Need-same-length-3
-same-length-3 c = search rules
-
-same-length-4 : tie.Need-same-length-4
-same-length-4 c = search rules
-
-returns-3 : tie.Need-returns-3
+returns : tie.Need-returns
 unfolding for_ending
-returns-3 c =
+returns c =
     let done = c.before.before.before.before.before.before.before in
     let formatted = done.before.before.before.before.before in
     let known = formatted.before in
     rw (first_is (first-known known), second_is known)
-    (same_index c.tell3.ensures.0 c.tell3.ensures.1 ∙ ap decode_returned (rw formatted.frame-format.ensures at done.decode.ensures))
+    (same_index c.tell-2.ensures.0 c.tell-2.ensures.1 ∙ ap decode_returned (rw formatted.frame_format-format.ensures at done.decode-reply.ensures))
 
-pub turbo-decode-spec : {M : Type 1} → statement M
-turbo-decode-spec =
+pub turbo_decode_spec : {M : Type 1} → statement M
+turbo_decode_spec =
     tie.close
     (tie.spec
-    end-of-requires
-    enum-known-first
-    enum_told
+    end_of-requires
+    enum_known-first
+    enum_told-1
     tell-requires
-    returns
-    end-of-requires-2
-    enum-known-second
-    enum-told-2
+    returns-in_default
+    end_of-requires-2
+    enum_known-second
+    enum_told-in_default-end_of
+    tell-requires-in_default-end_of
+    returns-in_default-end_of
+    frame_format-format-requires
+    decode-reply-requires
     tell-requires-2
-    returns-2
-    frame-format-requires
-    decode-requires
-    tell-requires-3
-    same_length
-    same-length-2
-    same-length-3
-    same-length-4
-    returns-3)
+    shape_of-decided
+    shape_of-margins
+    shape_of-extrinsics
+    shape_of-work
+    returns)

@@ -6,17 +6,17 @@ use Rattle.capi.specs.laws.Returning.{same_entries}
 use Rattle.capi.proofs.turbo_house_next.Statement.{statement}
 use Rattle.capi.proofs.turbo_house_next.Tie as tie
 
-house-next-requires : tie.Need-house-next-requires
-house-next-requires c κs = search rules
+house_next-requires : tie.Need-house_next-requires
+house_next-requires c κs = search rules
 
 write-requires : tie.Need-write-requires
 write-requires c κs = search rules
 
-same_length : tie.Need-same-length
-same_length c = search rules
+shape_of-list : tie.Need-shape_of-list
+shape_of-list c = search rules
 
 returns : tie.Need-returns
-returns c = c.before.before.write.ensures ∙ same_entries _ c.before.before.before.before.house-next.ensures
+returns c = c.write.ensures ∙ same_entries _ c.house_next.ensures
 
-pub turbo-house-next-spec : {M : Type 1} → statement M
-turbo-house-next-spec = tie.close (tie.spec house-next-requires write-requires same_length returns)
+pub turbo_house_next_spec : {M : Type 1} → statement M
+turbo_house_next_spec = tie.close (tie.spec house_next-requires write-requires shape_of-list returns)

@@ -8,63 +8,63 @@ use Rattle.capi.specs.laws.Returning.{same_index}
 use Rattle.capi.proofs.turbo_lone_decode.Statement.{statement}
 use Rattle.capi.proofs.turbo_lone_decode.Tie as tie
 
-end-of-requires : tie.Need-end-of-requires
-end-of-requires c κs = search rules
+end_of-requires : tie.Need-end_of-requires
+end_of-requires c κs = search rules
 
-enum-known-by : tie.Need-enum-known-by
-enum-known-by c = search rules
+enum_known-by : tie.Need-enum_known-by
+enum_known-by c = search rules
 
-enum_told : tie.Need-enum-told
-enum_told c = search rules
+enum_told-1 : tie.Need-enum_told-1
+enum_told-1 c = search rules
 
 tell-requires : tie.Need-tell-requires
 tell-requires c κs = search rules
 
-returns : tie.Need-returns
+returns-in_default : tie.Need-returns-in_default
 unfolding for_ending number_of place_of told
-returns c =
-    let unknown = sym c.before.before.before.before.end_of_lem.ensures ∙ c.before.before.enum_told.given.1 in
+returns-in_default c =
+    let unknown = sym c.end_of.ensures ∙ c.in_default.is in
     rw unknown (same_index c.tell.ensures.0 c.tell.ensures.1)
 
-decode-requires : tie.Need-decode-requires
-decode-requires c κs = search rules
+decode-reply-requires : tie.Need-decode-reply-requires
+decode-reply-requires c κs = search rules
 
 tell-requires-2 : tie.Need-tell-requires-2
 tell-requires-2 c κs = search rules
 
-same_length : tie.Need-same-length
-same_length c = search rules
+shape_of-marks : tie.Need-shape_of-marks
+shape_of-marks c = search rules
 
-same-length-2 : tie.Need-same-length-2
-same-length-2 c = search rules
+shape_of-margins : tie.Need-shape_of-margins
+shape_of-margins c = search rules
 
-same-length-3 : tie.Need-same-length-3
-same-length-3 c = search rules
+shape_of-extrinsics : tie.Need-shape_of-extrinsics
+shape_of-extrinsics c = search rules
 
-same-length-4 : tie.Need-same-length-4
-same-length-4 c = search rules
+shape_of-work : tie.Need-shape_of-work
+shape_of-work c = search rules
 
-returns-2 : tie.Need-returns-2
+returns : tie.Need-returns
 unfolding for_ending
-returns-2 c =
+returns c =
     let done = c.before.before.before.before.before.before.before in
     let known = done.before.before.before.before.before in
-    let end_is = sym known.before.before.before.end_of_lem.ensures ∙ known.before.by.given.1 in
-    rw end_is (same_index c.tell2.ensures.0 c.tell2.ensures.1 ∙ ap lone_returned done.decode.ensures)
+    let end_is = sym known.end_of.ensures ∙ known.in-Known.is in
+    rw end_is (same_index c.tell-2.ensures.0 c.tell-2.ensures.1 ∙ ap lone_returned done.decode-reply.ensures)
 
-pub turbo-lone-decode-spec : {M : Type 1} → statement M
-turbo-lone-decode-spec =
+pub turbo_lone_decode_spec : {M : Type 1} → statement M
+turbo_lone_decode_spec =
     tie.close
     (tie.spec
-    end-of-requires
-    enum-known-by
-    enum_told
+    end_of-requires
+    enum_known-by
+    enum_told-1
     tell-requires
-    returns
-    decode-requires
+    returns-in_default
+    decode-reply-requires
     tell-requires-2
-    same_length
-    same-length-2
-    same-length-3
-    same-length-4
-    returns-2)
+    shape_of-marks
+    shape_of-margins
+    shape_of-extrinsics
+    shape_of-work
+    returns)

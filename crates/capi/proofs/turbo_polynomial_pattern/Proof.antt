@@ -7,17 +7,17 @@ use Rattle.capi.specs.laws.Returning.{same_number}
 use Rattle.capi.proofs.turbo_polynomial_pattern.Statement.{statement}
 use Rattle.capi.proofs.turbo_polynomial_pattern.Tie as tie
 
-polynomial-pattern-requires : tie.Need-polynomial-pattern-requires
-polynomial-pattern-requires c κs = search rules
+polynomial_pattern-requires : tie.Need-polynomial_pattern-requires
+polynomial_pattern-requires c κs = search rules
 
-number-of-requires : tie.Need-number-of-requires
-number-of-requires c κs = search rules
+number_of-requires : tie.Need-number_of-requires
+number_of-requires c κs = search rules
 
-same_length : tie.Need-same-length
-same_length c = search rules
+shape_of-pattern : tie.Need-shape_of-pattern
+shape_of-pattern c = search rules
 
 returns : tie.Need-returns
-returns c = same_number c.number_of_lem.ensures ∙ ap pattern_returned c.before.before.before.polynomial-pattern.ensures
+returns c = same_number c.number_of.ensures ∙ ap pattern_returned c.polynomial_pattern.ensures
 
-pub turbo-polynomial-pattern-spec : {M : Type 1} → statement M
-turbo-polynomial-pattern-spec = tie.close (tie.spec polynomial-pattern-requires number-of-requires same_length returns)
+pub turbo_polynomial_pattern_spec : {M : Type 1} → statement M
+turbo_polynomial_pattern_spec = tie.close (tie.spec polynomial_pattern-requires number_of-requires shape_of-pattern returns)

@@ -7,11 +7,11 @@ use Rattle.capi.proofs.turbo_sheet.Tie as tie
 answer-requires : tie.Need-answer-requires
 answer-requires c κs = search rules
 
-same_length : tie.Need-same-length
-same_length c = search rules
+shape_of-out : tie.Need-shape_of-out
+shape_of-out c = search rules
 
 returns : tie.Need-returns
-returns c = c.before.before.answer.ensures
+returns c = c.answer.ensures
 
-pub turbo-sheet-spec : {M : Type 1} → statement M
-turbo-sheet-spec = tie.close (tie.spec answer-requires same_length returns)
+pub turbo_sheet_spec : {M : Type 1} → statement M
+turbo_sheet_spec = tie.close (tie.spec answer-requires shape_of-out returns)

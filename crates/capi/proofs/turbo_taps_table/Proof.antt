@@ -7,20 +7,20 @@ use Rattle.capi.specs.laws.Returning.{same_number}
 use Rattle.capi.proofs.turbo_taps_table.Statement.{statement}
 use Rattle.capi.proofs.turbo_taps_table.Tie as tie
 
-taps-table-requires : tie.Need-taps-table-requires
-taps-table-requires c κs = search rules
+taps_table-requires : tie.Need-taps_table-requires
+taps_table-requires c κs = search rules
 
-number-of-requires : tie.Need-number-of-requires
-number-of-requires c κs = search rules
+number_of-requires : tie.Need-number_of-requires
+number_of-requires c κs = search rules
 
-same_length : tie.Need-same-length
-same_length c = search rules
+shape_of-next : tie.Need-shape_of-next
+shape_of-next c = search rules
 
-same-length-2 : tie.Need-same-length-2
-same-length-2 c = search rules
+shape_of-words : tie.Need-shape_of-words
+shape_of-words c = search rules
 
 returns : tie.Need-returns
-returns c = same_number c.number_of_lem.ensures ∙ ap taps_returned c.before.before.before.before.before.taps-table.ensures
+returns c = same_number c.number_of.ensures ∙ ap taps_returned c.taps_table.ensures
 
-pub turbo-taps-table-spec : {M : Type 1} → statement M
-turbo-taps-table-spec = tie.close (tie.spec taps-table-requires number-of-requires same_length same-length-2 returns)
+pub turbo_taps_table_spec : {M : Type 1} → statement M
+turbo_taps_table_spec = tie.close (tie.spec taps_table-requires number_of-requires shape_of-next shape_of-words returns)

@@ -7,17 +7,17 @@ use Rattle.capi.specs.laws.Returning.{same_number}
 use Rattle.capi.proofs.values_of.Statement.{statement}
 use Rattle.capi.proofs.values_of.Tie as tie
 
-sample-values-requires : tie.Need-sample-values-requires
-sample-values-requires c κs = search rules
+sample_values-requires : tie.Need-sample_values-requires
+sample_values-requires c κs = search rules
 
-number-of-requires : tie.Need-number-of-requires
-number-of-requires c κs = search rules
+number_of-requires : tie.Need-number_of-requires
+number_of-requires c κs = search rules
 
-same_length : tie.Need-same-length
-same_length c = search rules
+shape_of-values : tie.Need-shape_of-values
+shape_of-values c = search rules
 
 returns : tie.Need-returns
-returns c = same_number c.number_of_lem.ensures ∙ ap samples_returned c.before.before.sample-values.ensures
+returns c = same_number c.number_of.ensures ∙ ap samples_returned c.sample_values.ensures
 
-pub values-of-spec : {M : Type 1} → statement M
-values-of-spec = tie.close (tie.spec sample-values-requires number-of-requires same_length returns)
+pub values_of_spec : {M : Type 1} → statement M
+values_of_spec = tie.close (tie.spec sample_values-requires number_of-requires shape_of-values returns)

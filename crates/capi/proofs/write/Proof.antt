@@ -14,54 +14,54 @@ use Rattle.capi.specs.laws.Returning.{same_number, written_done, written_refused
 use Rattle.capi.proofs.write.Statement.{statement}
 use Rattle.capi.proofs.write.Tie as tie
 
-abbrev invariant-loop : tie.invariant-loop
+abbrev invariant-loop : tie.invariant-loop-i
 invariant-loop list₀ entries i₀ list i = (i ≤ 8) × (length list ≡ 8) × Filled 0 (λ j. get_or entries j 0) list i
 
-abbrev decreases-loop : tie.decreases-loop
+abbrev decreases-loop : tie.decreases-loop-i
 decreases-loop list₀ entries i₀ list i = 8 - i
 
-number-of-refusal-requires : tie.Need-number-of-refusal-requires invariant-loop decreases-loop
-number-of-refusal-requires c κs = search rules
+number_of_refusal-requires : tie.Need-number_of_refusal-requires invariant-loop decreases-loop
+number_of_refusal-requires c κs = search rules
 
-returns : tie.Need-returns invariant-loop decreases-loop
+returns-then-list-ne8 : tie.Need-returns-then-list-ne8 invariant-loop decreases-loop
 unfolding told
-returns c =
-    let a = c.before.before.before.args in
-    let eight : length a.t1 ≡ 8 = search rules in
-    same_number c.number-of-refusal.ensures ∙ sym (written_refused a.t1 a.list.now (λ e. c.before.if1.true (e ∙ eight)))
+returns-then-list-ne8 c =
+    let a = c.args in
+    let eight : length a.entries ≡ 8 = search rules in
+    same_number c.number_of_refusal.ensures ∙ sym (written_refused a.entries a.list.now (λ e. c.if-list-ne8.true (e ∙ eight)))
 
-loop-holds : tie.Need-loop-init invariant-loop decreases-loop
-loop-holds c = (omega arith, search rules, filled_none _)
+loop-i-init : tie.Need-loop-i-init invariant-loop decreases-loop
+loop-i-init c = (omega arith, search rules, filled_none _)
 
-array-read-list : tie.Need-array-read-list invariant-loop decreases-loop
-array-read-list c = search rules
+bounds-entries-i : tie.Need-bounds-entries-i invariant-loop decreases-loop
+bounds-entries-i c = search rules
 
-slice-write-list : tie.Need-slice-write-list invariant-loop decreases-loop
-slice-write-list c = omega (arith, c.before.loop.invariant.1)
+bounds-list-i : tie.Need-bounds-list-i invariant-loop decreases-loop
+bounds-list-i c = omega (arith, c.loop-i.invariant.1)
 
-add-i : tie.Need-overflow-add-i invariant-loop decreases-loop
-add-i c = search rules
+overflow_add-i : tie.Need-overflow_add-i invariant-loop decreases-loop
+overflow_add-i c = search rules
 
-loop-less : tie.Need-loop-smaller invariant-loop decreases-loop
-loop-less c = search rules
+loop-i-smaller : tie.Need-loop-i-smaller invariant-loop decreases-loop
+loop-i-smaller c = search rules
 
-loop-again : tie.Need-loop-preserved invariant-loop decreases-loop
-loop-again c =
-    let inv = c.before.loop.invariant in
+loop-i-preserved : tie.Need-loop-i-preserved invariant-loop decreases-loop
+loop-i-preserved c =
+    let inv = c.loop-i.invariant in
     (omega arith, simp length-set inv.1, filled_more (omega (arith, inv.1)) refl inv.2)
 
-same_length : tie.Need-same-length invariant-loop decreases-loop
-same_length c = search rules
+shape_of-list : tie.Need-shape_of-list invariant-loop decreases-loop
+shape_of-list c = search rules
 
-returns-2 : tie.Need-returns-2 invariant-loop decreases-loop
-returns-2 c =
-    let a = c.before.before.before.before.args in
-    let inv = c.before.loop.invariant in
-    let eight : length a.t1 ≡ 8 = search rules in
-    let all : c.before.loop.i ≡ 8 = omega arith in
-    let same : c.before.loop.list ≡ a.t1 =
+returns : tie.Need-returns invariant-loop decreases-loop
+returns c =
+    let a = c.args in
+    let inv = c.loop-i.invariant in
+    let eight : length a.entries ≡ 8 = search rules in
+    let all : c.loop-i.i ≡ 8 = omega arith in
+    let same : c.loop-i.list ≡ a.entries =
     ext_get_or 0 _ _ (inv.1 ∙ sym eight) (λ j l. inv.2.entry j (omega (arith, inv.1, all))) in
-    ap (λ (l : List ℕ). returned 0 l) same ∙ sym (written_done a.t1 a.list.now (c.before.before.if1.false ∙ sym eight))
+    ap (λ (l : List ℕ). returned 0 l) same ∙ sym (written_done a.entries a.list.now (c.if-list-ne8.false ∙ sym eight))
 
 pub write_spec : {M : Type 1} → statement M
 write_spec =
@@ -69,13 +69,13 @@ write_spec =
     (tie.spec
     invariant-loop
     decreases-loop
-    number-of-refusal-requires
-    returns
-    loop-holds
-    array-read-list
-    slice-write-list
-    add-i
-    loop-less
-    loop-again
-    same_length
-    returns-2)
+    number_of_refusal-requires
+    returns-then-list-ne8
+    loop-i-init
+    bounds-entries-i
+    bounds-list-i
+    overflow_add-i
+    loop-i-smaller
+    loop-i-preserved
+    shape_of-list
+    returns)

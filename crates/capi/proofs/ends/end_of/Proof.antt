@@ -15,20 +15,20 @@ none_above (suc zero) h = absurd (omega arith)
 none_above (suc (suc zero)) h = absurd (omega arith)
 none_above (suc (suc (suc n))) h = refl
 
-returns : tie.Need-returns
+returns-in-0 : tie.Need-returns-in-0
 unfolding end_of
-returns c = rw c.match.keys1
+returns-in-0 c = rw c.in-0.is
 
-returns-2 : tie.Need-returns-2
+returns-in-1 : tie.Need-returns-in-1
 unfolding end_of
-returns-2 c = rw c.match.keys2
+returns-in-1 c = rw c.in-1.is
 
-returns-3 : tie.Need-returns-3
+returns-in-2 : tie.Need-returns-in-2
 unfolding end_of
-returns-3 c = rw c.match.keys3
+returns-in-2 c = rw c.in-2.is
 
-returns-4 : tie.Need-returns-4
-returns-4 c = sym (none_above _ (omega (arith, c.match.rest)))
+returns-in_default : tie.Need-returns-in_default
+returns-in_default c = sym (none_above _ (omega (arith, c.in_default.in_default-own.rest)))
 
-pub end-of-spec : {M : Type 1} → statement M
-end-of-spec = tie.close (tie.spec returns returns-2 returns-3 returns-4)
+pub end_of_spec : {M : Type 1} → statement M
+end_of_spec = tie.close (tie.spec returns-in-0 returns-in-1 returns-in-2 returns-in_default)
