@@ -16,8 +16,10 @@ use Rattle.integers.specs.laws.Laws.{within_more, within_sum}
 use Rattle.integers.specs.laws.Linear.{ints, fits_of}
 use Rattle.trellis.specs.Path.{signed}
 use Rattle.trellis.specs.laws.MaxPlus.{plus}
-use Rattle.trellis.specs.laws.Signs.{signed_within}
-use Rattle.trellis.specs.laws.Sizes.{Small, absent, present, small_known}
+use Rattle.trellis.proofs.laws.Signs.{signed_within}
+use Rattle.trellis.specs.laws.Sizes.{Small}
+use Rattle.trellis.specs.laws.Sizes.{absent, present}
+use Rattle.trellis.proofs.laws.Sizes.{small_known}
 use Rattle.metrics.specs.Words.{is_nothing, held}
 use Rattle.metrics.specs.laws.Held.{held_small}
 use Rattle.butterfly.specs.laws.Metrics.{IsSign, is_minus, gain_of}

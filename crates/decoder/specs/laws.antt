@@ -4,7 +4,6 @@ pub mod Decodable
 pub mod Gathering
 pub mod Passing
 pub mod Iterating
-pub mod Handing
 pub mod Running
 pub mod Marks
 pub mod Finishing

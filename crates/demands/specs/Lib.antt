@@ -9,4 +9,3 @@ pub mod Placed
 pub mod Sampled
 pub mod Called
 pub mod CalledFromC
-pub mod laws

@@ -9,8 +9,9 @@ use lib.ListN.{length, get_or}
 use lib.Pow.{pow_mono}
 use Rattle.integers.specs.laws.Bounds.{Within}
 use Rattle.integers.specs.laws.Laws.{within_more, within_sum}
-use Rattle.trellis.specs.laws.Signs.{signed_within}
-use Rattle.trellis.specs.laws.Sizes.{Small, small_more, word_within}
+use Rattle.trellis.proofs.laws.Signs.{signed_within}
+use Rattle.trellis.specs.laws.Sizes.{Small}
+use Rattle.trellis.proofs.laws.Sizes.{small_more, word_within}
 use Rattle.trellis.specs.laws.Sweeps.{Row}
 use Rattle.siso.specs.laws.Held.{branch_metric_of, WordMetrics, Ready, Branches, Held}
 

@@ -11,7 +11,7 @@ use lib.ListN.{length, get_or, set, get_or-eq_default}
 use Rattle.integers.specs.laws.Bounds.{Within}
 use Rattle.integers.specs.laws.Laws.{within_zero}
 use Rattle.trellis.specs.Path.{word_metric}
-use Rattle.trellis.specs.laws.Signs.{signed_zero}
+use Rattle.trellis.proofs.laws.Signs.{signed_zero}
 use Rattle.siso.specs.laws.Held.{WordMetrics}
 
 pub value_within :

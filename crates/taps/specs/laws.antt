@@ -1,4 +1,3 @@
 pub mod Filling
 pub mod Tables
-pub mod Tails
 pub mod Examples

@@ -1,16 +1,6 @@
-pub mod Examples
-pub mod Listing
-pub mod Signs
-pub mod Parity
 pub mod Branches
-pub mod Agreement
 pub mod Sizes
 pub mod MaxPlus
-pub mod Greatest
 pub mod Over
 pub mod Sweeps
-pub mod Recursion
-pub mod Emptiness
-pub mod RightSigned
-pub mod Returning
 pub mod Outside

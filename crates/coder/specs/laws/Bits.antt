@@ -8,7 +8,8 @@ use Rattle.lists.specs.Lists.{every}
 use Rattle.lists.specs.laws.Every.{every_at}
 use Rattle.trellis.specs.Best.{IsBits}
 use Rattle.frame.specs.Interleaver.{interleave}
-use Rattle.frame.specs.laws.Interleaving.{Permutes, interleave_at, interleave_length}
+use Rattle.frame.specs.laws.Interleaving.{Permutes}
+use Rattle.frame.proofs.laws.Interleaving.{interleave_at, interleave_length}
 
 -- what is past the end reads as 0
 bits_are : {n : ℕ} (xs : List ℕ) → length xs ≡ n → ((k : ℕ) → k < n → get_or xs k 0 < 2) → IsBits n xs

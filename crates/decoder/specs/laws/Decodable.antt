@@ -12,9 +12,9 @@ use Rattle.trellis.specs.declared.End.TheVariants.{Zero, Open}
 use Rattle.trellis.specs.Table.{table_checks}
 use Rattle.trellis.specs.Limits.{channel_fits}
 use Rattle.trellis.specs.Outcome.{pathless, forced}
-use Rattle.trellis.specs.laws.Returning.{LeadsBack, back_has_path, back_none_forced, open_has_path, open_none_forced}
+use Rattle.trellis.proofs.laws.Returning.{LeadsBack, back_has_path, back_none_forced, open_has_path, open_none_forced}
 use Rattle.frame.specs.Frame.{Frame, tail_of, tail1, tail2, sections1, sections2, longer, frame_length}
-use Rattle.frame.specs.laws.Checked.{Framed}
+use Rattle.frame.proofs.laws.Checked.{Framed}
 use Rattle.decoder.specs.Decoder.{DecodeCall, DecodeLent, decode_lists_fit, decode_lent_checks, both_walked, both_free, decode_path_checks, decode_checks}
 
 pub record Decodable (c : DecodeCall) (l : DecodeLent) : Type 0 where

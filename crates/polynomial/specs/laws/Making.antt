@@ -11,7 +11,7 @@ use Rattle.refusal.specs.declared.Reply.TheVariants.{Done, Refused}
 use Rattle.refusal.specs.Refusals.{check, ◌then◌, first_of, after}
 use Rattle.refusal.specs.laws.InTurn.{first_passes, first_refuses, Each, each_holds}
 use Rattle.frame.specs.Interleaver.{permutes}
-use Rattle.frame.specs.laws.Checked.{sizes_small}
+use Rattle.frame.proofs.laws.Checked.{sizes_small}
 use Rattle.polynomial.specs.Polynomial.{PatternCall, entries, coefficients_fit, bits_fit, size_checks, entry_checks, pattern_checks, pattern_result_of, pattern_built}
 
 -- K and both coefficients within their limits

@@ -9,7 +9,8 @@ use Rattle.lists.specs.laws.Tests.{and_right, and_true}
 use Rattle.refusal.specs.declared.Refusal.TheVariants.{Lists, Pattern, ForcedPosition}
 use Rattle.refusal.specs.Refusals.{first_of, after}
 use Rattle.refusal.specs.laws.Checks.{fails_first, passes_first}
-use Rattle.frame.specs.laws.Interleaving.{Permutes, permuting}
+use Rattle.frame.specs.laws.Interleaving.{Permutes}
+use Rattle.frame.proofs.laws.Interleaving.{permuting}
 use Rattle.result.specs.Result.{ConcludeCall, ConcludeLent, conclude_lists_fit, conclude_pattern, all_free, conclude_checks, conclude_settled}
 use Rattle.result.specs.Result.{conclude_call_of, conclude_lent_of}
 use Rattle.result.specs.laws.Concluding.{concluded_not, concluded_done, Lengths, lengths}

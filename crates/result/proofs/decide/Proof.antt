@@ -10,7 +10,7 @@ use mir.Facts.{to_z-of_z}
 use mir.Syntax.{w32}
 use Rattle.integers.specs.laws.Linear.{fits_of}
 use Rattle.lists.specs.laws.Listed.{map_at}
-use Rattle.frame.specs.laws.Interleaving.{Placed, placed_none, placed_more, placed_all}
+use Rattle.frame.proofs.laws.Interleaving.{Placed, placed_none, placed_more, placed_all}
 use Rattle.soft.specs.Soft.{decided}
 use borrow.Author.Rules.{rules}
 use Rattle.result.proofs.decide.Statement.{statement}

@@ -9,7 +9,7 @@ use mir.Facts.{to_z-of_z}
 use mir.Syntax.{w32}
 use Rattle.integers.specs.laws.Linear.{fits_of}
 use borrow.Author.Rules.{rules}
-use Rattle.frame.specs.laws.Interleaving.{Placed, placed_none, placed_more, placed_all}
+use Rattle.frame.proofs.laws.Interleaving.{Placed, placed_none, placed_more, placed_all}
 use Rattle.result.proofs.deinterleave_soft.Statement.{statement}
 use Rattle.result.proofs.deinterleave_soft.Tie as tie
 

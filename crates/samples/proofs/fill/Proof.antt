@@ -14,7 +14,7 @@ use borrow.Author.Rules.{rules}
 use Rattle.lists.specs.laws.Every.{every_at}
 use Rattle.lists.specs.laws.Stores.{Filled, filled_none, filled_more}
 use Rattle.samples.specs.Samples.{◌*ᶠ◌, nearest_value}
-use Rattle.samples.specs.laws.Calls.{filled_map}
+use Rattle.samples.proofs.laws.Calls.{filled_map}
 use Rattle.samples.proofs.fill.Statement.{statement}
 use Rattle.samples.proofs.fill.Tie as tie
 

@@ -6,7 +6,7 @@ use borrow.Author.Rules.{rules}
 use Rattle.refusal.specs.declared.Reply.TheVariants.{Done}
 use Rattle.refusal.specs.Refusals.{first_of}
 use Rattle.samples.specs.Samples.{sample_checks}
-use Rattle.samples.specs.laws.Calls.{refused, ready, done}
+use Rattle.samples.proofs.laws.Calls.{refused, ready, done}
 use Rattle.samples.proofs.sample_values.Statement.{statement}
 use Rattle.samples.proofs.sample_values.Tie as tie
 

@@ -9,7 +9,7 @@ use mir.Val.{SFits}
 use Rattle.integers.specs.Integers.{half}
 use Rattle.integers.specs.laws.Bounds.{Within}
 use Rattle.integers.specs.laws.Linear.{ints, plain}
-use Rattle.trellis.specs.laws.Sizes.{small_known}
+use Rattle.trellis.proofs.laws.Sizes.{small_known}
 use Rattle.butterfly.proofs.position.margin_less.Statement.{statement}
 use Rattle.butterfly.proofs.position.margin_less.Tie as tie
 

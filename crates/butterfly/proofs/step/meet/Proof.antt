@@ -8,7 +8,7 @@ use Rattle.integers.specs.laws.Bounds.{Within}
 use Rattle.integers.specs.laws.Laws.{within_more}
 use Rattle.integers.specs.laws.Linear.{plain}
 use Rattle.trellis.specs.laws.MaxPlus.{plus, plus_comm}
-use Rattle.trellis.specs.laws.Sizes.{small_known}
+use Rattle.trellis.proofs.laws.Sizes.{small_known}
 use Rattle.metrics.specs.Words.{held}
 use Rattle.metrics.specs.laws.Held.{held_none, held_some}
 use Rattle.butterfly.proofs.Sums.{small_fits, sum_there}

@@ -6,7 +6,7 @@ use native.Mathlib.Omega.{arith}
 use lib.ListN.{length, get_or, length-set}
 use borrow.Author.Rules.{rules}
 use Rattle.lists.specs.laws.Stores.{Filled, filled_none, filled_more}
-use Rattle.frame.specs.laws.Interleaving.{interleave_filled}
+use Rattle.frame.proofs.laws.Interleaving.{interleave_filled}
 use Rattle.coder.proofs.interleaver.interleave_bits.Statement.{statement}
 use Rattle.coder.proofs.interleaver.interleave_bits.Tie as tie
 

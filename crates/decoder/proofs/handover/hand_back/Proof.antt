@@ -11,7 +11,7 @@ use mir.Val.{to_z, of_z}
 use mir.Facts.{to_z-of_z}
 use Rattle.integers.specs.laws.Linear.{fits_of}
 use Rattle.lists.specs.laws.Listed.{map_at}
-use Rattle.frame.specs.laws.Interleaving.{Placed, placed_none, placed_more, placed_all}
+use Rattle.frame.proofs.laws.Interleaving.{Placed, placed_none, placed_more, placed_all}
 use Rattle.soft.specs.Soft.{hand_over}
 use borrow.Author.Rules.{rules}
 use mir.Syntax.{w32}

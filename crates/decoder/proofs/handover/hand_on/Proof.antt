@@ -12,7 +12,7 @@ use mir.Facts.{to_z-of_z}
 use Rattle.integers.specs.laws.Linear.{fits_of}
 use Rattle.lists.specs.laws.Listed.{map_at}
 use Rattle.lists.specs.laws.Stores.{Filled, filled_none, filled_more}
-use Rattle.frame.specs.laws.Interleaving.{interleave_filled}
+use Rattle.frame.proofs.laws.Interleaving.{interleave_filled}
 use Rattle.soft.specs.Soft.{hand_over}
 use borrow.Author.Rules.{rules}
 use mir.Syntax.{w32}

@@ -9,7 +9,7 @@ use lib.IntN.{ℤ, pos}
 use lib.ListN.{length, replicate}
 use Rattle.lists.specs.laws.Lending.{Back, front_long, front_back}
 use Rattle.frame.specs.Frame.{tail_of, tail1, tail2, sections1, sections2, longer, sizes_fit, length_under, frame_length}
-use Rattle.frame.specs.laws.Checked.{Checked, checked, sections_fit_lem, few_tail}
+use Rattle.frame.proofs.laws.Checked.{Checked, checked, sections_fit_lem, few_tail}
 use Rattle.decoder.specs.Decoder.{DecodeCall}
 use Rattle.decoder.specs.laws.Gathering.{Gathered, channel1_small, channel2_small}
 use Rattle.decoder.specs.laws.Passing.{Zeros}

@@ -9,7 +9,7 @@ use borrow.Author.Rules.{rules}
 use borrow.Author.Tests.{leb-true, not-true, not-false}
 use Rattle.lists.specs.laws.Tests.{and_left}
 use Rattle.frame.specs.Frame.{good_sizes, good_masks}
-use Rattle.frame.specs.laws.Checked.{sizes_small, few_tail}
+use Rattle.frame.proofs.laws.Checked.{sizes_small, few_tail}
 use Rattle.frame.proofs.checks.frame_fits.Statement.{statement}
 use Rattle.frame.proofs.checks.frame_fits.Tie as tie
 

@@ -8,7 +8,7 @@ use native.Mathlib.Omega.{arith}
 use borrow.Author.Rules.{rules}
 use borrow.Author.Tests.{lt-leb, le-leb, not-true, not-false}
 use Rattle.frame.specs.Frame.{good_sizes}
-use Rattle.frame.specs.laws.Checked.{sizes_small, few_tail}
+use Rattle.frame.proofs.laws.Checked.{sizes_small, few_tail}
 use Rattle.frame.proofs.checks.work_length.Statement.{statement}
 use Rattle.frame.proofs.checks.work_length.Tie as tie
 

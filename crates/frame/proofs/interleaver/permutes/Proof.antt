@@ -8,7 +8,7 @@ use lib.Dec.{leb}
 use lib.ListN.{length}
 use borrow.Author.Rules.{rules}
 use borrow.Author.Tests.{le-leb, lt-leb}
-use Rattle.frame.specs.laws.Seen.{Seen, seen_none, seen_more, seen_too_large, seen_twice, seen_all}
+use Rattle.frame.proofs.laws.Seen.{Seen, seen_none, seen_more, seen_too_large, seen_twice, seen_all}
 use Rattle.frame.proofs.interleaver.permutes.Statement.{statement}
 use Rattle.frame.proofs.interleaver.permutes.Tie as tie
 

@@ -10,7 +10,7 @@ use Rattle.integers.specs.laws.Bounds.{Within}
 use Rattle.integers.specs.laws.Laws.{within_more, within_sum}
 use Rattle.integers.specs.laws.Linear.{ints, plain}
 use Rattle.trellis.specs.laws.MaxPlus.{plus, plus_comm, plus_assoc}
-use Rattle.trellis.specs.laws.Sizes.{small_known, small_more}
+use Rattle.trellis.proofs.laws.Sizes.{small_known, small_more}
 use Rattle.metrics.specs.Words.{held}
 use Rattle.metrics.specs.laws.Held.{held_none, held_some}
 use Rattle.siso.proofs.metric.through.Statement.{statement}

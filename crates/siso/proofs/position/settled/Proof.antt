@@ -18,7 +18,7 @@ use Rattle.lists.specs.Lists.{found}
 use Rattle.lists.specs.laws.Tests.{and_both}
 use Rattle.trellis.specs.declared.Outcome.TheVariants.{Forced}
 use Rattle.trellis.specs.Outcome.{outcome_of, position_of, extrinsic}
-use Rattle.trellis.specs.laws.Sizes.{small_known}
+use Rattle.trellis.proofs.laws.Sizes.{small_known}
 use Rattle.metrics.specs.Words.{held, best_limit}
 use Rattle.metrics.specs.laws.Held.{found_some}
 use Rattle.siso.proofs.position.settled.Statement.{statement}

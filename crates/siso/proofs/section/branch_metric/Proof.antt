@@ -10,7 +10,7 @@ use Rattle.integers.specs.laws.Bounds.{Within}
 use Rattle.integers.specs.laws.Laws.{within_sum}
 use Rattle.integers.specs.laws.Linear.{ints, plain}
 use Rattle.trellis.specs.Path.{signed}
-use Rattle.trellis.specs.laws.Signs.{signed_within}
+use Rattle.trellis.proofs.laws.Signs.{signed_within}
 use Rattle.siso.proofs.section.branch_metric.Statement.{statement}
 use Rattle.siso.proofs.section.branch_metric.Tie as tie
 

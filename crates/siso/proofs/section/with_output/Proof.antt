@@ -12,7 +12,7 @@ use Rattle.integers.specs.laws.Laws.{within_more}
 use Rattle.integers.specs.laws.Linear.{ints, plain}
 use Rattle.trellis.specs.Path.{signed}
 use Rattle.trellis.specs.Table.{output}
-use Rattle.trellis.specs.laws.Signs.{signed_within}
+use Rattle.trellis.proofs.laws.Signs.{signed_within}
 use Rattle.siso.proofs.section.with_output.Statement.{statement}
 use Rattle.siso.proofs.section.with_output.Tie as tie
 

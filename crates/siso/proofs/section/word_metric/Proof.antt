@@ -11,7 +11,7 @@ use Rattle.integers.specs.laws.Bounds.{Within}
 use Rattle.integers.specs.laws.Laws.{within_more, within_zero}
 use Rattle.integers.specs.laws.Linear.{plain, fits_of}
 use Rattle.trellis.specs.Path.{word_metric}
-use Rattle.trellis.specs.laws.Sizes.{word_within}
+use Rattle.trellis.proofs.laws.Sizes.{word_within}
 use mir.Syntax.{w32}
 use Rattle.siso.proofs.Words.{four_within}
 use Rattle.siso.proofs.section.word_metric.Statement.{statement}

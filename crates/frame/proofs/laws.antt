@@ -1,0 +1,3 @@
+pub mod Interleaving
+pub mod Checked
+pub mod Seen

@@ -1,0 +1,11 @@
+pub mod Examples
+pub mod Listing
+pub mod Signs
+pub mod Parity
+pub mod Agreement
+pub mod Greatest
+pub mod Recursion
+pub mod Emptiness
+pub mod RightSigned
+pub mod Returning
+pub mod Sizes
