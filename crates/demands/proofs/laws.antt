@@ -12,6 +12,7 @@ pub mod EveryPass
 pub mod EveryPlace
 pub mod EverySample
 pub mod EverySheet
+pub mod OneAnswer
 pub mod FaultyLines
 pub mod Forced
 pub mod Leaning

@@ -41,11 +41,11 @@ module _ (sheet : List ℕ) where
   unfolding answer
   answer_by_rules r e = ap (λ (x : Reply). printed x frame_result.lists) (reply_by_rules ∙ e)
 
-  answer_refused : (r : Refusal) → first_of (sheet_rules sheet) ≡ Refused r → answer sheet ≡ refusal_text r
+  pub answer_refused : (r : Refusal) → first_of (sheet_rules sheet) ≡ Refused r → answer sheet ≡ refusal_text r
   unfolding printed
   answer_refused r e = answer_by_rules (Refused r) e
 
-  answer_decoded : first_of (sheet_rules sheet) ≡ Done → answer sheet ≡ result_text frame_result.lists
+  pub answer_decoded : first_of (sheet_rules sheet) ≡ Done → answer sheet ≡ result_text frame_result.lists
   unfolding printed
   answer_decoded e = answer_by_rules Done e
 
@@ -58,7 +58,7 @@ module _ (sheet : List ℕ) where
         let (sized, (faultless, (inside, (permuted, end)))) = each_holds (sheet_rules sheet) unbroken in
         frame_reply sheet (each_done (text_checks sheet) (sized, (faultless, tt))) ∙ each_done _ (inside, (permuted, tt))
 
-    frame_passes : first_of (decode_lent_checks (sheet_call_of sheet) (lent_for sheet)) ≡ Done
+    pub frame_passes : first_of (decode_lent_checks (sheet_call_of sheet) (lent_for sheet)) ≡ Done
     unfolding decode_checks
     frame_passes = (both_done (decode_lent_checks (sheet_call_of sheet) (lent_for sheet)) (decode_path_checks (sheet_call_of sheet).frame) frame_done).0
 
@@ -67,7 +67,7 @@ module _ (sheet : List ℕ) where
     frame_replied = frame_done
 
     -- a line for each message position
-    all_lines : length frame_result.lists.bits ≡ message_bits sheet
+    pub all_lines : length frame_result.lists.bits ≡ message_bits sheet
     unfolding sheet_call_of
     all_lines = result_long (sheet_call_of sheet) (lent_for sheet) frame_replied ∙ listed_length (λ k. (message_at sheet k).to) (message_bits sheet)
 
@@ -146,20 +146,3 @@ module _ (sheet : List ℕ) where
 -- every sequence of bytes is a sheet
 pub every_sheet_is_answered : (sheet : List ℕ) → IsAnswer sheet (answer sheet)
 every_sheet_is_answered sheet = tested sheet _ _ _ _ refl refl refl refl
-
--- ---- and by nothing else
-
-same_text : (sheet text : List ℕ) → IsResult sheet text → text ≡ answer sheet
-unfolding result_text
-same_text sheet text h =
-    let e = (done_exactly (sheet_rules sheet)).1 h.unbroken in
-    let same = (decoding_exactly (sheet_call_of sheet) (lent_for sheet) (frame_passes sheet e) h.result).0 h.decoding in
-    rw (← all_lines sheet e, same) at h.whole ∙ sym (answer_decoded sheet e)
-
--- the answer is the only text that the statement allows
-pub answer_exactly : (sheet text : List ℕ) → IsAnswer sheet text ↔ (text ≡ answer sheet)
-answer_exactly sheet text = (only, λ e. rw e (every_sheet_is_answered sheet))
-  where
-    only : IsAnswer sheet text → text ≡ answer sheet
-    only = unfold IsAnswer refusal_text in
-        ⊎_elim (λ h. h.whole ∙ sym (answer_refused sheet h.refusal (((first_is_reply (sheet_rules sheet)).refused h.refusal).1 h.first))) (same_text sheet text)
