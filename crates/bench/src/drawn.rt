@@ -2,6 +2,7 @@
 use crate::calls::Passed;
 use crate::listing::{Best, Lists};
 use crate::{calls, listing, numbers};
+use std::io;
 use trellis::{End, PassFormat};
 
 // What is counted: calls with no path, free and forced positions, and what does not agree.
@@ -205,7 +206,7 @@ fn draw_one(t: Tally, c: usize, seed: u32, end: End) -> Tally {
     compared(t, f, x, a, systematic)
 }
 
-fn all_drawn(end: End) {
+fn all_drawn(rt: &impl Print, end: End) -> io::Result<()> {
     let mut t = Tally { counts: [0; 4] };
     let mut seed: u32 = 2026;
     let mut c: usize = 0;
@@ -215,18 +216,17 @@ fn all_drawn(end: End) {
         seed = other(next(seed), 5);
         c += 1;
     }
-    numbers::put(t.counts[PATHLESS]);
-    numbers::put(t.counts[FREE]);
-    numbers::put(t.counts[FORCED]);
-    numbers::end(t.counts[WRONG]);
+    numbers::put(rt, t.counts[PATHLESS])?;
+    numbers::put(rt, t.counts[FREE])?;
+    numbers::put(rt, t.counts[FORCED])?;
+    numbers::end(rt, t.counts[WRONG])
 }
 
-pub fn run() {
-    io::write_all(
-        1,
-        b"480 passes beside the listing of all paths, zero, open and ring: pathless, free positions, forced ones, wrong\n",
-    );
-    all_drawn(End::Zero);
-    all_drawn(End::Open);
-    all_drawn(End::Ring);
+pub fn run(rt: &impl Print) -> io::Result<()> {
+    println!(rt;
+        "480 passes beside the listing of all paths, zero, open and ring: pathless, free positions, forced ones, wrong"
+    )?;
+    all_drawn(rt, End::Zero)?;
+    all_drawn(rt, End::Open)?;
+    all_drawn(rt, End::Ring)
 }
