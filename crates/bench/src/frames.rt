@@ -35,10 +35,8 @@ fn put_zeros(rt: &impl Print, iterations: usize) -> io::Result<()> {
 // Values of 1 on the side of each bit.
 fn values(sent: [u8; 32]) -> [i16; 32] {
     let mut out = [0i16; 32];
-    let mut i: usize = 0;
-    while i < 32 {
+    for i in 0..32 {
         out[i] = if sent[i] == 1 { 1 } else { -1 };
-        i += 1;
     }
     out
 }
