@@ -45,6 +45,6 @@ take() {
 prove() {
     command -v rt >/dev/null || cannot "the Rattle toolchain's command 'rt' is not on this machine, and what it builds is missing or out of date"
     tell "building; every part is proved first, which takes some minutes"
-    (cd "$root/crates/$2" && rt "$3" 2>&1 </dev/null | { grep --line-buffered '^rt: ' || :; } >&2) || cannot "the build failed; 'rt $3' in crates/$2 says why"
+    (cd "$root/crates/$2" && rt "$3" 2>&1 </dev/null | sed -u -n '/^rt: running /d; /^rt: /p' >&2) || cannot "the build failed; 'rt $3' in crates/$2 says why"
     take "$1" "$2" "$4" || cannot "what was built could not be copied"
 }
