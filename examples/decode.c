@@ -2,7 +2,7 @@
  * Codes a message of eight bits with the house code, lets the channel turn one bit and weaken another, and decodes the frame; then shows how a
  * value out of range is told.
  *
- *     rt staticlib capi
+ *     scripts/library
  *     cc -std=c99 -Iinclude examples/decode.c target/staticlib/libcapi.a -o target/decode && target/decode
  */
 #include <stdio.h>

@@ -2,7 +2,7 @@
  * Codes a message of five letters with the eight-state code of 3GPP TS 36.212 and its interleaver for 40 bits, lets the channel turn every ninth
  * bit, and decodes the frame.
  *
- *     rt staticlib capi
+ *     scripts/library
  *     cc -std=c99 -Iinclude examples/eight_states.c target/staticlib/libcapi.a -o target/eight_states && target/eight_states
  */
 #include <stdio.h>

@@ -2,7 +2,7 @@
  * Codes a message of eight bits with the house code, both coders closing a ring, lets the channel turn one bit, and decodes the frame; then shows a
  * message that closes no ring.
  *
- *     rt staticlib capi
+ *     scripts/library
  *     cc -std=c99 -Iinclude examples/ring.c target/staticlib/libcapi.a -o target/ring && target/ring
  */
 #include <stdio.h>

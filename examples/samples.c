@@ -2,7 +2,7 @@
  * Codes a message of three bits with the house code, makes a radio's samples of the frame, of which noise turns one, and goes from the samples to
  * channel values and from these to bits and margins; then shows the two other channels, and how a sample that is infinite is told.
  *
- *     rt staticlib capi
+ *     scripts/library
  *     cc -std=c99 -Iinclude examples/samples.c target/staticlib/libcapi.a -o target/samples && target/samples
  */
 #include <math.h>

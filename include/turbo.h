@@ -1,7 +1,7 @@
 /*
  * turbo.h: the turbo frame receiver for C.
  *
- * Link with libcapi.a, which `rt staticlib capi` writes to target/staticlib. The functions behind these declarations are proved: for every call
+ * Link with libcapi.a, which `scripts/library` writes to target/staticlib. The functions behind these declarations are proved: for every call
  * the number returned and all that is left in the lists are those that the definitions give (crates/capi/src/lib.rt). Nothing checks this file
  * against that one, nor the rules below, which are the caller's part.
  *

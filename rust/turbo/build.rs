@@ -1,4 +1,4 @@
-// Links libcapi.a from TURBO_LIB_DIR, or from target/staticlib of the repository, where `rt staticlib capi` writes it.
+// Links libcapi.a from TURBO_LIB_DIR, or from target/staticlib of the repository, where `scripts/library` writes it.
 use std::env;
 use std::path::PathBuf;
 
@@ -10,7 +10,7 @@ fn main() {
     };
     let archive = dir.join("libcapi.a");
     if !archive.is_file() {
-        eprintln!("{} is not there: run `rt staticlib capi`, or name its folder in TURBO_LIB_DIR", archive.display());
+        eprintln!("{} is not there: run `scripts/library`, or name its folder in TURBO_LIB_DIR", archive.display());
         std::process::exit(1);
     }
     println!("cargo:rerun-if-changed={}", archive.display());

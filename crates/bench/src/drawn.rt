@@ -2,6 +2,7 @@
 use crate::calls::Passed;
 use crate::listing::{Best, Lists};
 use crate::{calls, listing, numbers};
+use std::io;
 use trellis::{End, PassFormat};
 
 // What is counted: calls with no path, free and forced positions, and what does not agree.
@@ -74,15 +75,13 @@ fn word(seed: u32, outputs: usize, i: usize, systematic: bool) -> u8 {
 fn branches(seed: u32, f: PassFormat, is_next: bool, systematic: bool) -> [u8; 48] {
     let mut xs = [0u8; 48];
     let mut s = seed;
-    let mut i: usize = 0;
-    while i < 48 {
+    for i in 0..48 {
         s = next(s);
         xs[i] = if is_next {
             below(s, f.states)
         } else {
             word(s, f.outputs, i, systematic)
         };
-        i += 1;
     }
     xs
 }
@@ -91,11 +90,9 @@ fn branches(seed: u32, f: PassFormat, is_next: bool, systematic: bool) -> [u8; 4
 fn values(seed: u32, limit: u16) -> [i16; 48] {
     let mut xs = [0i16; 48];
     let mut s = seed;
-    let mut i: usize = 0;
-    while i < 48 {
+    for i in 0..48 {
         s = next(s);
         xs[i] = value(s, limit);
-        i += 1;
     }
     xs
 }
@@ -135,12 +132,9 @@ fn told(f: PassFormat, x: Lists, k: usize, systematic: bool) -> i32 {
 // Every position of a pass taken into the tally.
 fn positions(t: Tally, f: PassFormat, x: Lists, a: Passed, best: Best, systematic: bool) -> Tally {
     let mut out = t;
-    let mut k: usize = 0;
-    while k < f.sections {
+    for k in 0..f.sections {
         let known = told(f, x, k, systematic);
-        let more = one_more(out, verdict(best, a, k, known));
-        out = more;
-        k += 1;
+        out = one_more(out, verdict(best, a, k, known));
     }
     out
 }
@@ -148,10 +142,8 @@ fn positions(t: Tally, f: PassFormat, x: Lists, a: Passed, best: Best, systemati
 // 16·2^N.
 fn paths(sections: usize) -> usize {
     let mut out: usize = 16;
-    let mut k: usize = 0;
-    while k < sections {
+    for _ in 0..sections {
         out = numbers::product(out, 2);
-        k += 1;
     }
     out
 }
@@ -205,28 +197,24 @@ fn draw_one(t: Tally, c: usize, seed: u32, end: End) -> Tally {
     compared(t, f, x, a, systematic)
 }
 
-fn all_drawn(end: End) {
+fn all_drawn(rt: &impl Print, end: End) -> io::Result<()> {
     let mut t = Tally { counts: [0; 4] };
     let mut seed: u32 = 2026;
-    let mut c: usize = 0;
-    while c < 480 {
-        let more = draw_one(t, c, seed, end);
-        t = more;
+    for c in 0..480 {
+        t = draw_one(t, c, seed, end);
         seed = other(next(seed), 5);
-        c += 1;
     }
-    numbers::put(t.counts[PATHLESS]);
-    numbers::put(t.counts[FREE]);
-    numbers::put(t.counts[FORCED]);
-    numbers::end(t.counts[WRONG]);
+    numbers::put(rt, t.counts[PATHLESS])?;
+    numbers::put(rt, t.counts[FREE])?;
+    numbers::put(rt, t.counts[FORCED])?;
+    numbers::end(rt, t.counts[WRONG])
 }
 
-pub fn run() {
-    io::write_all(
-        1,
-        b"480 passes beside the listing of all paths, zero, open and ring: pathless, free positions, forced ones, wrong\n",
-    );
-    all_drawn(End::Zero);
-    all_drawn(End::Open);
-    all_drawn(End::Ring);
+pub fn run(rt: &impl Print) -> io::Result<()> {
+    println!(rt;
+        "480 passes beside the listing of all paths, zero, open and ring: pathless, free positions, forced ones, wrong"
+    )?;
+    all_drawn(rt, End::Zero)?;
+    all_drawn(rt, End::Open)?;
+    all_drawn(rt, End::Ring)
 }

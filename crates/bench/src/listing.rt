@@ -64,12 +64,9 @@ fn walked(f: PassFormat, x: Lists, start: usize, inputs: usize) -> Walk {
         metric: 0,
     };
     let mut rest = inputs;
-    let mut k: usize = 0;
-    while k < f.sections {
-        let more = step(f, x, w, k, rest % 2);
-        w = more;
-        rest = rest / 2;
-        k += 1;
+    for k in 0..f.sections {
+        w = step(f, x, w, k, rest % 2);
+        rest /= 2;
     }
     w
 }
@@ -107,12 +104,9 @@ fn taken_at(best: Best, k: usize, bit: usize, metric: i32) -> Best {
 fn taken(best: Best, sections: usize, inputs: usize, metric: i32) -> Best {
     let mut out = best;
     let mut rest = inputs;
-    let mut k: usize = 0;
-    while k < sections {
-        let more = taken_at(out, k, rest % 2, metric);
-        out = more;
-        rest = rest / 2;
-        k += 1;
+    for k in 0..sections {
+        out = taken_at(out, k, rest % 2, metric);
+        rest /= 2;
     }
     out
 }
@@ -135,11 +129,8 @@ pub fn list(f: PassFormat, x: Lists, paths: usize) -> Best {
         metric: [0; 32],
         has: [0; 32],
     };
-    let mut p: usize = 0;
-    while p < paths {
-        let more = offered(out, f, x, p % 16, p / 16);
-        out = more;
-        p += 1;
+    for p in 0..paths {
+        out = offered(out, f, x, p % 16, p / 16);
     }
     out
 }

@@ -10,9 +10,11 @@ mod listing;
 mod numbers;
 mod passes;
 
-fn main() {
-    passes::run();
-    frames::run();
-    codes::run();
-    drawn::run();
+use std::io;
+
+fn main(rt: HostRuntime) -> io::Result<()> {
+    passes::run(&rt)?;
+    frames::run(&rt)?;
+    codes::run(&rt)?;
+    drawn::run(&rt)
 }

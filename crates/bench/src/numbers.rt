@@ -1,4 +1,5 @@
 // Reads, sums and products that refuse nothing, and printing. With them the bench's own code needs no bounds.
+use std::io;
 
 // The sum of two numbers of at most 500,000,000 in size, and 0 of larger ones.
 pub fn sum(x: i32, y: i32) -> i32 {
@@ -54,24 +55,21 @@ fn word(xs: &[i32], i: usize) -> i32 {
 }
 
 // A decimal number and a space after it.
-pub fn put(n: usize) {
-    io::print_decimal(1, n as u64);
-    io::write_all(1, b" ");
+pub fn put(rt: &impl Print, n: usize) -> io::Result<()> {
+    print!(rt; "{n} ")
 }
 
 // A decimal number and a line end after it.
-pub fn end(n: usize) {
-    io::print_decimal(1, n as u64);
-    io::write_all(1, b"\n");
+pub fn end(rt: &impl Print, n: usize) -> io::Result<()> {
+    println!(rt; "{n}")
 }
 
 // The first n entries.
-pub fn put_bytes(xs: &[u8], n: usize) {
-    let mut i: usize = 0;
-    while i < n {
-        put(byte(xs, i) as usize);
-        i += 1;
+pub fn put_bytes(rt: &impl Print, xs: &[u8], n: usize) -> io::Result<()> {
+    for i in 0..n {
+        put(rt, byte(xs, i) as usize)?;
     }
+    Ok(())
 }
 
 // The size of a number of at most 500,000,000 in size, and 0 of a larger one.
@@ -89,18 +87,17 @@ fn size(x: i32) -> usize {
 }
 
 // A decimal number with its sign, and a space after it.
-fn put_signed(x: i32) {
+fn put_signed(rt: &impl Print, x: i32) -> io::Result<()> {
     if x < 0 {
-        io::write_all(1, b"-");
+        print!(rt; "-")?;
     }
-    put(size(x));
+    put(rt, size(x))
 }
 
 // The first n margins.
-pub fn put_margins(xs: &[i32], n: usize) {
-    let mut i: usize = 0;
-    while i < n {
-        put_signed(word(xs, i));
-        i += 1;
+pub fn put_margins(rt: &impl Print, xs: &[i32], n: usize) -> io::Result<()> {
+    for i in 0..n {
+        put_signed(rt, word(xs, i))?;
     }
+    Ok(())
 }

@@ -1,6 +1,7 @@
 // The lone decoder: limits, the index of the first bad value, and document 001's Table 2.
 use crate::calls::Passed;
 use crate::{calls, numbers};
+use std::io;
 use trellis::{End, PassFormat};
 
 // A table of four states and two outputs that ends at zero.
@@ -21,7 +22,13 @@ pub fn house(sections: usize, channel: &[i16], apriori: &[i16]) -> Passed {
 }
 
 // Number and index for four sections of zeros, but for a channel value at an index and at the last, and so for an a-priori value.
-fn put_values(at: usize, channel_value: i16, position: usize, apriori_value: i16) {
+fn put_values(
+    rt: &impl Print,
+    at: usize,
+    channel_value: i16,
+    position: usize,
+    apriori_value: i16,
+) -> io::Result<()> {
     let mut channel = [0i16; 8];
     channel[at % 8] = channel_value;
     channel[7] = channel_value;
@@ -29,18 +36,18 @@ fn put_values(at: usize, channel_value: i16, position: usize, apriori_value: i16
     apriori[position % 4] = apriori_value;
     apriori[3] = apriori_value;
     let a = house(4, &channel, &apriori);
-    numbers::put(a.number);
-    numbers::end(a.place);
+    numbers::put(rt, a.number)?;
+    numbers::end(rt, a.place)
 }
 
-fn put_sections(sections: usize) {
+fn put_sections(rt: &impl Print, sections: usize) -> io::Result<()> {
     let channel = [1i16; 8192];
     let apriori = [-1i16; 4096];
-    numbers::end(house(sections, &channel, &apriori).number);
+    numbers::end(rt, house(sections, &channel, &apriori).number)
 }
 
 // Marks and margins.
-fn put_table_2() {
+fn put_table_2(rt: &impl Print) -> io::Result<()> {
     let channel: [i16; 12] = [3, 1, -5, 2, 8, 5, -5, 3, 1, -7, 15, -4];
     let a = calls::pass(
         format(6),
@@ -51,31 +58,30 @@ fn put_table_2() {
     );
     let marks = a.marks;
     let margins = a.margins;
-    numbers::put_bytes(&marks, 6);
-    numbers::put_margins(&margins, 6);
-    numbers::end(a.number);
+    numbers::put_bytes(rt, &marks, 6)?;
+    numbers::put_margins(rt, &margins, 6)?;
+    numbers::end(rt, a.number)
 }
 
-pub fn run() {
-    io::write_all(
-        1,
-        b"number and index of the first bad value: channel 1023 1024 -1023 -1024 at 5; a-priori 8191 8192 -8191 -8192 at 2; 1024 at 0, 7, and 6 beside 8192\n",
-    );
-    put_values(5, 1023, 2, 0);
-    put_values(5, 1024, 2, 0);
-    put_values(5, -1023, 2, 0);
-    put_values(5, -1024, 2, 0);
-    put_values(5, 0, 2, 8191);
-    put_values(5, 0, 2, 8192);
-    put_values(5, 0, 2, -8191);
-    put_values(5, 0, 2, -8192);
-    put_values(0, 1024, 2, 0);
-    put_values(7, 1024, 2, 0);
-    put_values(6, 1024, 0, 8192);
-    io::write_all(1, b"sections 4096, 4097 and 0\n");
-    put_sections(4096);
-    put_sections(4097);
-    put_sections(0);
-    io::write_all(1, b"document 001's Table 2: marks, margins and reply\n");
-    put_table_2();
+pub fn run(rt: &impl Print) -> io::Result<()> {
+    println!(rt;
+        "number and index of the first bad value: channel 1023 1024 -1023 -1024 at 5; a-priori 8191 8192 -8191 -8192 at 2; 1024 at 0, 7, and 6 beside 8192"
+    )?;
+    put_values(rt, 5, 1023, 2, 0)?;
+    put_values(rt, 5, 1024, 2, 0)?;
+    put_values(rt, 5, -1023, 2, 0)?;
+    put_values(rt, 5, -1024, 2, 0)?;
+    put_values(rt, 5, 0, 2, 8191)?;
+    put_values(rt, 5, 0, 2, 8192)?;
+    put_values(rt, 5, 0, 2, -8191)?;
+    put_values(rt, 5, 0, 2, -8192)?;
+    put_values(rt, 0, 1024, 2, 0)?;
+    put_values(rt, 7, 1024, 2, 0)?;
+    put_values(rt, 6, 1024, 0, 8192)?;
+    println!(rt; "sections 4096, 4097 and 0")?;
+    put_sections(rt, 4096)?;
+    put_sections(rt, 4097)?;
+    put_sections(rt, 0)?;
+    println!(rt; "document 001's Table 2: marks, margins and reply")?;
+    put_table_2(rt)
 }

@@ -2,6 +2,7 @@
 #![tactic(auto)]
 
 use refusal::Reply;
+use std::io;
 use turbo::{End, FrameFormat, PassFormat};
 
 // The house code, one message bit, both coders ending at zero with two tail sections.
@@ -70,21 +71,19 @@ fn pass_four(
 }
 
 // A reply's number, 0 where the call is done, and an entry of what came of it.
-fn show(reply: Reply, entry: u8) {
-    io::print_decimal(1, refusal::number_of(reply) as u64);
-    io::write_all(1, b" ");
-    io::print_decimal(1, entry as u64);
-    io::write_all(1, b"\n");
+fn show(rt: &impl Print, reply: Reply, entry: u8) -> io::Result<()> {
+    let number = refusal::number_of(reply);
+    println!(rt; "{number} {entry}")
 }
 
-fn main() {
+fn main(rt: HostRuntime) -> io::Result<()> {
     let mut sent = [0; 11];
     let reply = send_one(&mut sent);
-    show(reply, sent[4]);
+    show(&rt, reply, sent[4])?;
     let mut bits = [0; 1];
     let reply = read_one(&mut bits, &mut [0; 1], &mut [0; 1], &mut [0; 16]);
-    show(reply, bits[0]);
+    show(&rt, reply, bits[0])?;
     let mut marks = [0; 4];
     let reply = pass_four(&mut marks, &mut [0; 4], &mut [0; 4], &mut [0; 20]);
-    show(reply, marks[3]);
+    show(&rt, reply, marks[3])
 }

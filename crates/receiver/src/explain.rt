@@ -1,111 +1,102 @@
-// A refusal in words, to standard error. The answer's second line has its number and its line.
+// A refusal in words. The answer's second line has its number and its line.
 use hints::Hint;
-
-fn say(text: &[u8]) {
-    io::write_all(libc::STDERR_FILENO, text);
-}
-
-// A line's number between two texts.
-fn say_line(front: &[u8], line: usize, back: &[u8]) {
-    say(front);
-    io::print_decimal(libc::STDERR_FILENO, line as u64);
-    say(back);
-}
+use std::io;
+use std::io::Write;
 
 // What is seen of the sheet as a whole, and whether that is all there is to say. An empty last line makes another line look faulty, so it is told alone.
-fn whole_sheet(seen: Hint) -> bool {
-    let kind = seen.kind;
-    match kind {
-        hints::EMPTY => say(b"The sheet is empty."),
-        hints::UTF16 => say(b"The sheet is UTF-16, two bytes a character: save it as plain text."),
-        hints::BYTE_ORDER_MARK => say(
-            b"The sheet begins with a byte order mark: save it without one.",
-        ),
-        hints::TOO_LONG => say(b"The sheet has more than 16,384 bytes."),
-        hints::EMPTY_LINE => say_line(
-            b"Line ",
-            seen.line,
-            b", the last, is empty: take it away, since it counts as a row.",
-        ),
-        _ => return false,
+fn whole_sheet<W: Write>(err: &mut W, seen: Hint) -> io::Result<bool> {
+    let line = seen.line;
+    match seen.kind {
+        hints::EMPTY => write!(err, "The sheet is empty.")?,
+        hints::UTF16 => write!(
+            err,
+            "The sheet is UTF-16, two bytes a character: save it as plain text."
+        )?,
+        hints::BYTE_ORDER_MARK => write!(
+            err,
+            "The sheet begins with a byte order mark: save it without one."
+        )?,
+        hints::TOO_LONG => write!(err, "The sheet has more than 16,384 bytes.")?,
+        hints::EMPTY_LINE => write!(
+            err,
+            "Line {line}, the last, is empty: take it away, since it counts as a row."
+        )?,
+        _ => return Ok(false),
     }
-    true
+    Ok(true)
 }
 
 // What is seen of a line.
-fn one_line(seen: Hint) {
-    let kind = seen.kind;
+fn one_line<W: Write>(err: &mut W, seen: Hint) -> io::Result<()> {
     let line = seen.line;
-    match kind {
-        hints::CARRIAGE_RETURN => say_line(
-            b" Line ",
-            line,
-            b" has a carriage return: save the sheet with line feeds alone (LF, not CR LF).",
+    match seen.kind {
+        hints::CARRIAGE_RETURN => write!(
+            err,
+            " Line {line} has a carriage return: save the sheet with line feeds alone (LF, not CR LF)."
         ),
-        hints::TAB => say_line(
-            b" Line ",
-            line,
-            b" has a tab: fields are parted by one space.",
+        hints::TAB => write!(
+            err,
+            " Line {line} has a tab: fields are parted by one space."
         ),
-        hints::LAST_SPACE => say_line(b" Line ", line, b" ends in a space: take it away."),
-        hints::NO_LINE_FEED => say_line(
-            b" Line ",
-            line,
-            b", the last, is not ended by a line feed.",
-        ),
-        _ => say(b""),
+        hints::LAST_SPACE => write!(err, " Line {line} ends in a space: take it away."),
+        hints::NO_LINE_FEED => write!(err, " Line {line}, the last, is not ended by a line feed."),
+        _ => Ok(()),
     }
 }
 
 // The words for 1.
-fn text_refused(sheet: &[u8], line: &[u8]) {
+fn text_refused<W: Write>(err: &mut W, sheet: &[u8], line: &[u8]) -> io::Result<()> {
     let seen = hints::find(sheet);
-    if !whole_sheet(seen) {
+    if !whole_sheet(err, seen)? {
         if text::same(line, b"0") {
-            say(
-                b"The sheet has not from 3 to 514 rows after its header: 1 to 512 message rows and two tail rows.",
-            );
+            write!(
+                err,
+                "The sheet has not from 3 to 514 rows after its header: 1 to 512 message rows and two tail rows."
+            )?;
         } else {
-            say(b"Line ");
-            say(line);
-            say(
-                b" breaks the rules of a sheet (the header is line 1). A row has six fields, parted by one space, and is ended by a line feed.",
-            );
+            write!(err, "Line ")?;
+            err.write_all(line)?;
+            write!(
+                err,
+                " breaks the rules of a sheet (the header is line 1). A row has six fields, parted by one space, and is ended by a line feed."
+            )?;
         }
-        one_line(seen);
+        one_line(err, seen)?;
     }
-    say(b"\n");
+    writeln!(err)
 }
 
 // The words for 6.
-fn value_refused(line: &[u8]) {
-    say(b"Line ");
-    say(line);
-    say(
-        b" has the first value outside -1,023..1,023 (the header is line 1). Look at that row's values, and at how they are scaled.\n",
-    );
+fn value_refused<W: Write>(err: &mut W, line: &[u8]) -> io::Result<()> {
+    write!(err, "Line ")?;
+    err.write_all(line)?;
+    writeln!(
+        err,
+        " has the first value outside -1,023..1,023 (the header is line 1). Look at that row's values, and at how they are scaled."
+    )
 }
 
 // The words for the refusal that is the answer to a sheet: 1, 6, or else 8.
-pub fn refusal(sheet: &[u8], answer: &[u8]) {
+pub fn refusal<W: Write>(err: &mut W, sheet: &[u8], answer: &[u8]) -> io::Result<()> {
     let gap = text::next_at(answer, 13, b' ');
     if answer.len() <= gap {
-        return;
+        return Ok(());
     }
     let from = gap + 1;
     let end = answer.len() - 1;
     if end < from {
-        return;
+        return Ok(());
     }
     let number = &answer[13..gap];
     let line = &answer[from..end];
     if text::same(number, b"1") {
-        text_refused(sheet, line);
+        text_refused(err, sheet, line)
     } else if text::same(number, b"6") {
-        value_refused(line);
+        value_refused(err, line)
     } else {
-        say(
-            b"The column 'to' has not each message position exactly once. Look for a number twice, or one that is too large.\n",
-        );
+        writeln!(
+            err,
+            "The column 'to' has not each message position exactly once. Look for a number twice, or one that is too large."
+        )
     }
 }

@@ -10,6 +10,12 @@ mod explain;
 mod input;
 
 use input::Input;
+use std::alloc::Global;
+use std::fs::{OpenFile, OpenOptions};
+use std::io::{Error, ErrorKind, Write};
+use std::process::ExitCode;
+use std::rt::{Env, Files};
+use std::{fs, io};
 
 // Room for a sheet and one byte more, which tells that it is too long.
 fn room() -> [u8; 16385]
@@ -25,59 +31,113 @@ fn page() -> [u8; 24600]
     [0; 24600]
 }
 
-// Writes a text and answers whether all of it is out. Some files tell only when they are closed.
-fn show(text: &[u8]) -> bool {
-    if !io::write_all(libc::STDOUT_FILENO, text) {
-        return false;
+// Some files tell only when they are stored that there is no room for what was written. What stores nothing, as a pipe or a terminal, has no more to tell.
+fn store(rt: &impl Files) -> io::Result<()> {
+    let path = "/dev/fd/1";
+    if !fs::metadata(rt, path).is_ok_and(|found| found.is_file()) {
+        return Ok(());
     }
-    libc::close(libc::STDOUT_FILENO) == 0
+    let Ok(file) = fs::open(rt, path) else {
+        return Ok(());
+    };
+    match file.sync_data() {
+        Err(error) if error.kind() != ErrorKind::InvalidInput => Err(error),
+        _ => Ok(()),
+    }
 }
 
-// How the program ended, for a caller that asks.
-fn report(is_refused: bool) {
+// Writes a text, all of it, to standard output.
+fn show<R: Files, W: Write>(rt: &R, out: &mut W, text: &[u8]) -> io::Result<()> {
+    out.write_all(text)?;
+    store(rt)
+}
+
+// A byte to descriptor 3, by the name of what is open there.
+fn tell(rt: &impl Files, word: u8) -> io::Result<()> {
+    let mut file = OpenOptions::new().append(true).open(rt, "/dev/fd/3")?;
+    file.write_all(&[word])
+}
+
+// How the program ended, for a caller that asks. One that asks and cannot be told knows by that.
+fn report(rt: &(impl Env + Files), is_refused: bool) {
     let mut word = [0u8; 2];
-    let n = os::arg(1, &mut word);
-    if n != 1 {
+    let Ok(1) = rt.arg(1, &mut word) else {
         return;
-    }
-    if word[0] != b'3' {
-        return;
-    }
-    if is_refused {
-        io::write_all(3, b"1");
-    } else {
-        io::write_all(3, b"0");
+    };
+    if word[0] == b'3' {
+        let _ = tell(rt, if is_refused { b'1' } else { b'0' });
     }
 }
 
-// A read that failed leaves no sheet to answer.
-fn unread() {
-    os::fail(b"receiver: the sheet could not be read");
+// The system's words for an error, which end where its number begins.
+fn before_number(text: &str) -> &str {
+    match text.split_once(" (os error ") {
+        Some((words, _)) => words,
+        None => text,
+    }
+}
+
+// What failed, and why. Without memory for the words alone they come with the number.
+fn fail<W: Write>(alloc: Global, err: &mut W, what: &str, error: Error) -> io::Result<()> {
+    match error.to_string(alloc) {
+        Ok(text) => {
+            let why = before_number(text.as_str());
+            writeln!(err, "receiver: {what}: {why}")
+        }
+        Err(_) => writeln!(err, "receiver: {what}: {error}"),
+    }
+}
+
+// What a shell calls the status of a program whose reader has gone.
+const READER_GONE: u8 = 141;
+
+// The answer is not out, or not all of it. Where nobody reads it any more there is nobody to tell.
+fn unwritten<W: Write>(alloc: Global, err: &mut W, error: Error) -> ExitCode {
+    if error.kind() == ErrorKind::BrokenPipe {
+        return ExitCode::from(READER_GONE);
+    }
+    let _ = fail(alloc, err, "the answer could not be written", error);
+    ExitCode::SUCCESS
 }
 
 // Writes the answer, which has at least one byte, and then what is beside it.
-fn finish(sheet: &[u8], answer: &[u8])
+fn finish<R: AllocGlobal + Env + Files, W: Write, E: Write>(
+    rt: &R,
+    out: &mut W,
+    err: &mut E,
+    sheet: &[u8],
+    answer: &[u8],
+) -> ExitCode
     requires { 1 ≤ length answer.now }
 {
-    if !show(answer) {
-        os::fail(b"receiver: the answer could not be written");
-        return;
+    if let Err(error) = show(rt, out, answer) {
+        return unwritten(rt.alloc(), err, error);
     }
     let is_refused = answer[0] == b'r';
     if is_refused {
-        explain::refusal(sheet, answer);
+        let _ = explain::refusal(err, sheet, answer);
     }
-    report(is_refused);
+    report(rt, is_refused);
+    ExitCode::SUCCESS
 }
 
-fn main() {
+fn main(rt: HostRuntime) -> ExitCode {
+    let mut err = rt.stderr();
     let mut sheet = room();
-    let got = input::read_sheet(&mut sheet);
-    let Input::Whole(count) = got else {
-        unread();
-        return;
+    let count = match input::read_sheet(&mut rt.stdin(), &mut sheet) {
+        Input::Whole(count) => count,
+        Input::Failed(error) => {
+            let _ = fail(rt.alloc(), &mut err, "the sheet could not be read", error);
+            return ExitCode::SUCCESS;
+        }
     };
     let mut answer = page();
     let written = sheet::answer(&sheet[..count], &mut answer);
-    finish(&sheet[..count], &answer[..written]);
+    finish(
+        &rt,
+        &mut rt.stdout(),
+        &mut err,
+        &sheet[..count],
+        &answer[..written],
+    )
 }

@@ -1,6 +1,6 @@
 //! Codes a message with the house code, disturbs the frame and decodes it; then shows how refusals read.
 //!
-//!     rt staticlib capi && cd rust && cargo run --release --example decode
+//!     scripts/library && cd rust && cargo run --release --example decode
 use turbo::{decode, encode, End, Frame, Refusal, Table};
 
 fn main() -> Result<(), Refusal> {

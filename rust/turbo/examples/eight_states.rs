@@ -1,7 +1,7 @@
 //! Codes a message of five letters with the eight-state code of 3GPP TS 36.212 and its interleaver for 40 bits, lets the channel turn every ninth
 //! bit, and decodes the frame; then shows how taps that name no code are refused.
 //!
-//!     rt staticlib capi && cd rust && cargo run --release --example eight_states
+//!     scripts/library && cd rust && cargo run --release --example eight_states
 use turbo::{decode, encode, polynomial_pattern, End, Frame, Refusal, Table};
 
 fn main() -> Result<(), Refusal> {

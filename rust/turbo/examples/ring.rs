@@ -1,7 +1,7 @@
 //! Codes a message of eight bits with the house code, both coders closing a ring, lets the channel turn one bit, and decodes the frame; then shows a
 //! message that closes no ring.
 //!
-//!     rt staticlib capi && cd rust && cargo run --release --example ring
+//!     scripts/library && cd rust && cargo run --release --example ring
 use turbo::{decode, encode, End, Frame, Refusal, Table};
 
 fn main() -> Result<(), Refusal> {

@@ -1,7 +1,7 @@
 //! Codes a message of three bits with the house code, makes a radio's samples of the frame, of which noise turns one, and goes from the samples to
 //! channel values and from these to bits and margins; then shows the two other channels, and how a sample that is infinite is told.
 //!
-//!     rt staticlib capi && cd rust && cargo run --release --example samples
+//!     scripts/library && cd rust && cargo run --release --example samples
 use turbo::{decode, encode, sample_values, Channel, End, Frame, Refusal, Setting, Table};
 
 // The fourth is that of the second message bit, a 0, whose sample comes out above 0.

@@ -5,4 +5,4 @@ use Rattle.receiver.specs.declared.input.Input.{Input}
 
 abbrev pub Counted : ℕ → ℕ → Input → Type 0
 Counted from room (Input.Whole n) = (from ≤ n) × (n ≤ room)
-Counted from room Input.Failed = Unit {0}
+Counted from room (Input.Failed _) = Unit {0}
