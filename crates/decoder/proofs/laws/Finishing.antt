@@ -8,7 +8,7 @@ use Rattle.refusal.specs.declared.Refusal.{Refusal}
 use Rattle.refusal.specs.declared.Refusal.TheVariants.{ForcedPosition}
 use Rattle.refusal.specs.declared.Reply.{Reply}
 use Rattle.refusal.specs.declared.Reply.TheVariants.{Done, Refused}
-use Rattle.refusal.specs.Refusals.{check, ◌then◌, first_of, after}
+use Rattle.refusal.specs.Refusals.{check, first_of, after}
 use Rattle.refusal.specs.laws.Checks.{done_then, refused_then, done_after}
 use Rattle.frame.specs.declared.FrameFormat.{FrameFormat}
 use Rattle.trellis.specs.Outcome.{forced}
@@ -16,7 +16,7 @@ use Rattle.frame.specs.Frame.{tail1, tail2, sections1, sections2}
 use Rattle.frame.specs.Interleaver.{deinterleave}
 use Rattle.soft.specs.Soft.{decided}
 use Rattle.decoder.specs.Decoder.{handed_on, iteration, prior_after, last_pass, both_walked, both_free, decode_path_checks}
-use Rattle.decoder.specs.laws.Passing.{table_by, Zeros}
+use Rattle.decoder.specs.laws.Passing.{table_by}
 use Rattle.decoder.specs.laws.Iterating.{frame_by, sections1_by, sections2_by}
 use Rattle.decoder.proofs.laws.Handing.{take_front, margins_said, extrinsics_said, marks_free}
 use Rattle.decoder.specs.laws.Running.{Ended}

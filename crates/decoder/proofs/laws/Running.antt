@@ -1,6 +1,6 @@
 -- All iterations: what holds after each, and what the last leaves.
 -- Assumes nothing.
-use Rattle.std.specs.Prelude.{◌≡◌, refl, not, List, ◌++◌, map, ℤ, pos, take, eqb}
+use Rattle.std.specs.Prelude.{◌≡◌, refl, List, ◌++◌, map, ℤ, pos, take}
 use Rattle.std.proofs.Math.Path.{sym, ap}
 use Rattle.std.proofs.Common.{◌∙◌, take_at}
 use Prim.Native.Nat.{ℕ, zero, suc, ◌+◌, ◌-◌, ◌<◌, ◌≤◌}
@@ -8,7 +8,6 @@ use Rattle.std.proofs.Math.Numerals.{add-one}
 use native.Mathlib.Omega.{arith}
 use Rattle.std.proofs.Math.ListN.{length, replicate, length-replicate}
 use Rattle.std.proofs.lemmas.List.{replicate-append-replicate}
-use Rattle.lists.specs.Lists.{every, any, upto}
 use Rattle.integers.specs.Integers.{inside}
 use Rattle.lists.specs.laws.Every.{every_replicate}
 use Rattle.lists.specs.laws.Lending.{front_replicate}
@@ -16,15 +15,12 @@ use Rattle.refusal.specs.declared.Reply.{Reply}
 use Rattle.refusal.specs.declared.Reply.TheVariants.{Done}
 use Rattle.frame.specs.declared.FrameFormat.{FrameFormat}
 use Rattle.trellis.specs.Limits.{apriori_limit, apriori_fits}
-use Rattle.trellis.specs.Outcome.{forced}
-use Rattle.siso.specs.Lent.{values_of}
-use Rattle.frame.specs.Frame.{tail_of}
 use Rattle.frame.specs.laws.Interleaving.{Permutes}
 use Rattle.frame.proofs.laws.Interleaving.{deinterleave_length}
 use Rattle.soft.specs.Soft.{hand_over}
 use Rattle.decoder.specs.Decoder.{hand_back, handed_on, iteration, prior_after}
-use Rattle.decoder.specs.laws.Passing.{table_by, Zeros, Said}
-use Rattle.decoder.specs.laws.Iterating.{frame_by, sections1_by, sections2_by, IsPrior, path_reply, Iterated}
+use Rattle.decoder.specs.laws.Passing.{Zeros}
+use Rattle.decoder.specs.laws.Iterating.{frame_by, IsPrior, Iterated}
 use Rattle.decoder.proofs.laws.Handing.{back_fits, extrinsics_long}
 use Rattle.decoder.specs.laws.Running.{Says, Running, Ended}
 

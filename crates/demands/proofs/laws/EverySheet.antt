@@ -1,9 +1,9 @@
 -- What a sheet is answered with, the proof: every sequence of bytes is answered as the statement says, and by nothing else.
 -- Assumes nothing.
-use Rattle.std.specs.Prelude.{◌≡◌, ◌↔◌, ◌≢◌, Bool, List, ℕ, suc, ◌+◌, length}
+use Rattle.std.specs.Prelude.{◌≡◌, ◌≢◌, Bool, List, ℕ, suc, ◌+◌, length}
 use Rattle.std.proofs.Math.Path.{refl, sym, ap, subst}
 use Rattle.std.proofs.Common.{◌∙◌, arith}
-use Rattle.std.proofs.Math.Logic.{inl, inr, ⊎_elim}
+use Rattle.std.proofs.Math.Logic.{inl, inr}
 use Rattle.std.proofs.Math.Bool.{true, false, not}
 use Rattle.std.proofs.lemmas.Bool.{false≢true, not-false}
 use Rattle.std.proofs.Math.Option.{Option, none, some, Option-elim}
@@ -25,7 +25,6 @@ use Rattle.sheet.specs.laws.Answers.{sheet_reply, frame_reply, result_long, resu
 use Rattle.demands.specs.Answered.{sheet_rules, IsFaultyLine, IsFaultless, IsValueLine, IsResult, IsAnswer}
 use Rattle.demands.proofs.laws.EveryDecoding.{every_decoding_means}
 use Rattle.demands.proofs.laws.FaultyLines.{faulty_line, faultless_lines}
-use Rattle.demands.proofs.laws.Determined.{decoding_exactly}
 
 module _ (sheet : List ℕ) where
   abbrev frame_result : DecodeResult

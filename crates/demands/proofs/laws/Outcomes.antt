@@ -5,7 +5,6 @@ use Rattle.std.proofs.Math.Path.{refl, ap, ap₂}
 use Rattle.std.proofs.Common.{sym, ◌∙◌, arith}
 use Rattle.std.proofs.Math.Option.{Option, none, some, Option-elim}
 use Prim.Native.Nat.{ℕ, zero, suc}
-use Rattle.integers.specs.Integers.{half}
 use Rattle.integers.specs.laws.Linear.{ints}
 use Rattle.integers.specs.laws.Laws.{half_exact}
 use Rattle.trellis.specs.declared.End.{End}

@@ -13,7 +13,7 @@ use Rattle.trellis.specs.declared.End.{End}
 use Rattle.trellis.specs.declared.Outcome.{Outcome}
 use Rattle.trellis.specs.Table.{Table, systematic, shaped, branched}
 use Rattle.trellis.specs.Path.{Values, TrellisPath, apriori_at, channel_at, signed}
-use Rattle.trellis.specs.Outcome.{outcome, forced, margin, systematic_at, intrinsic, extrinsic, position_of, position, margins, extrinsics}
+use Rattle.trellis.specs.Outcome.{outcome, forced, margin, systematic_at, intrinsic, position_of, position, margins, extrinsics}
 use Rattle.trellis.proofs.laws.Signs.{signed_zero}
 use Rattle.trellis.proofs.laws.Emptiness.{outcome_is_free}
 use Rattle.trellis.proofs.laws.RightSigned.{RightSigned, right_margin, right_extrinsic}

@@ -6,7 +6,6 @@ use mathlib.Core.List.{List}
 use Rattle.std.specs.Float.Ieee.Scale.{finite}
 use Rattle.lists.specs.Lists.{every}
 use Rattle.samples.specs.Samples.{◌*ᶠ◌}
-use Rattle.samples.specs.laws.Settings.{factor}
 
 -- what the loop over the samples relies on
 pub record Ready (factor scale : Float) (samples : List Float) (values : List ℤ) : Type 0 where

@@ -2,7 +2,7 @@
 -- Assumes nothing.
 use mathlib.Core.Path.{◌≡◌, sym, ◌∙◌}
 use borrow.Author.Rules.{rules}
-use Rattle.refusal.specs.Refusals.{told, place_of, first_of}
+use Rattle.refusal.specs.Refusals.{place_of, first_of}
 use Rattle.refusal.specs.declared.Reply.TheVariants.{Done}
 use Rattle.rows.specs.Lines.{text_checks}
 use Rattle.sheet.specs.laws.Decoding.{answer_refused}

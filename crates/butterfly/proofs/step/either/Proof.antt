@@ -11,7 +11,6 @@ use Rattle.integers.specs.laws.Bounds.{Within}
 use Rattle.integers.specs.laws.Laws.{within_more}
 use Rattle.integers.specs.laws.Linear.{plain}
 use Rattle.trellis.specs.Outcome.{larger}
-use Rattle.trellis.specs.laws.MaxPlus.{plus}
 use Rattle.butterfly.proofs.Sums.{small_fits, zero_minus, opposite_small, kept}
 use Rattle.butterfly.proofs.step.either.Statement.{statement}
 use Rattle.butterfly.proofs.step.either.Tie as tie

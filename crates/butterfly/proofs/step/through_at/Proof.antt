@@ -3,8 +3,6 @@
 use borrow.Author.Rules.{rules}
 use native.Mathlib.Omega.{arith}
 use mathlib.Core.Path.{◌≡◌}
-use mathlib.Core.Bool.{true}
-use mathlib.Core.Option.{some}
 use Prim.Native.Nat.{ℕ, ◌+◌, ◌<◌}
 use lib.IntN.{ℤ, pos}
 use lib.ListN.{get_or}
@@ -12,7 +10,6 @@ use mir.Facts.{to_z-of_z}
 use mir.Syntax.{w32}
 use mir.Val.{to_z, of_z}
 use Rattle.integers.specs.laws.Linear.{fits_of}
-use Rattle.metrics.specs.Words.{held}
 use Rattle.metrics.specs.laws.Held.{found_some}
 use Rattle.butterfly.proofs.Sums.{kept}
 use Rattle.butterfly.proofs.step.through_at.Statement.{statement}

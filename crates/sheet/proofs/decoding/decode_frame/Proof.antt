@@ -9,7 +9,7 @@ use lib.ListN.{length, take, length-replicate}
 use borrow.Author.Rules.{rules}
 use Rattle.lists.specs.laws.Lending.{Back, front_long, front_back, front_replicate}
 use Rattle.refusal.specs.declared.Reply.TheVariants.{Done}
-use Rattle.refusal.specs.Refusals.{told, ◌then◌}
+use Rattle.refusal.specs.Refusals.{◌then◌}
 use Rattle.decoder.specs.Decoder.{DecodeResult, decode}
 use Rattle.decoder.specs.Lent.{decode_lent_of, decode_result_of}
 use Rattle.sheet.specs.laws.Printing.{work_unseen}
