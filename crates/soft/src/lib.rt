@@ -5,6 +5,7 @@ ghost use Rattle.std.specs.Prelude.{◌≡◌};
 ghost use Rattle.soft.specs.Soft.{hand_over, decided as decided_of};
 
 // Three quarters of an extrinsic, rounded towards zero, then limited to -8,191..8,191. 64 bits hold three times any e.
+#[tactic(auto, using(crate::proofs::Scaled::scaled_low, crate::proofs::Scaled::scaled_high, crate::proofs::Scaled::scaled_within))]
 pub fn handed(e: i32) -> i16
     ensures { result ≡ hand_over e }
 {

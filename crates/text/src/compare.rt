@@ -3,6 +3,7 @@ ghost use Rattle.std.specs.Prelude.{[], ◌≡◌, ◌+◌, length, get_or, drop
 ghost use Rattle.text.specs.Text.{cut, same as same_text};
 
 // Whether two texts are the same, byte by byte. Both are only read.
+#[tactic(auto, using(crate::specs::laws::Comparing::same_lengths, crate::specs::laws::Comparing::same_not, crate::specs::laws::Comparing::same_entries))]
 pub fn same(a: &[u8], b: &[u8]) -> bool
     ensures { result ≡ same_text a.now b.now }
 {

@@ -44,6 +44,7 @@ fn size(z: i32) -> u32
 }
 
 // A number as the program prints it, in decimal: the bytes and how many of them count.
+#[tactic(auto, using(crate::specs::laws::Printing::ten_digits, crate::specs::laws::Printing::decimal_minus, crate::specs::laws::Printing::decimal_plain))]
 pub fn decimal(z: i32) -> Digits
     ensures { (digits_of result ≡ decimal_of z) × (result.len ≤ 11) }
 {

@@ -8,6 +8,7 @@ use crate::values::{apriori_reply, channel_reply};
 use refusal::Reply;
 
 // N is 1 to 4,096.
+#[tactic(auto, unfolding(crate::specs::Limits::sections_fit))]
 pub fn sections_fit(sections: usize) -> bool
     ensures { result ≡ sections_fit sections }
 {
