@@ -1,0 +1,38 @@
+-- What the tests of a sheet's text tell, in the numbers that the code has: its pieces counted, and the first line that does not keep the rules, or how
+-- many lines there are.
+-- Assumes nothing.
+use Rattle.std.specs.Prelude.{◌≡◌, true, false, cond, ℕ, ◌+◌, ◌-◌, ◌≤◌, ◌<◌, leb, ltb, List, length}
+use Rattle.std.proofs.Common.{refl, ap, ◌∙◌, lt-ltb, le-ltb}
+use Rattle.std.proofs.Math.Option.{none, some}
+use borrow.Author.Tests.{lt-leb, le-leb}
+use Rattle.lists.specs.Lists.{is_empty}
+use Rattle.refusal.specs.declared.Refusal.TheVariants.{Text}
+use Rattle.refusal.specs.declared.Reply.TheVariants.{Refused}
+use Rattle.refusal.specs.Refusals.{first_of}
+use Rattle.rows.specs.Lines.{lines_of, last_piece, row_count, message_bits, fault_from, text_checks}
+use Rattle.rows.specs.laws.Pieces.{Counted}
+use Rattle.rows.specs.laws.Fitting.{last_empty, rows_are, text_open}
+
+module _ {sheet : List ℕ} {count last : ℕ} (counted : Counted 10 sheet count last) where
+  pub bits_are : message_bits sheet ≡ count - 1 + cond (leb (length sheet) last) 0 1 - 1 - 2
+  unfolding message_bits
+  bits_are = ap (λ (n : ℕ). n - 2) (rows_are counted)
+
+  pub open_end : last < length sheet → is_empty (last_piece sheet) ≡ false
+  open_end h = last_empty counted ∙ lt-leb _ _ h
+
+  pub closed_end : length sheet ≤ last → is_empty (last_piece sheet) ≡ true
+  closed_end h = last_empty counted ∙ le-leb _ _ h
+
+-- what is found before an end
+pub found_before : (i n : ℕ) → i < n → cond (ltb i n) (some i) none ≡ some i
+found_before i n h = rw (lt-ltb i n h) refl
+
+pub none_before : (i n : ℕ) → n ≤ i → cond (ltb i n) (some i) none ≡ none
+none_before i n h = rw (le-ltb i n h) refl
+
+-- a piece after the last line is told by its line's number
+pub text_after : (sheet : List ℕ) (n : ℕ) → length sheet ≤ 16384 → 3 ≤ row_count sheet → row_count sheet ≤ 514 →
+    fault_from (message_bits sheet) 0 (lines_of sheet) ≡ none → is_empty (last_piece sheet) ≡ false → n ≡ length (lines_of sheet) →
+    Refused (Text (n + 1)) ≡ first_of (text_checks sheet)
+text_after sheet n short least most faultless unended same = rw same (text_open sheet short least most faultless unended)
