@@ -1,10 +1,10 @@
 -- The coder by the words of its sections: whether a coder has a path by its end and the words of it; and the frame sent, with its reply, by the words of both.
 -- Assumes nothing.
-use Rattle.std.specs.Prelude.{◌≡◌, ◌≢◌, Bool, true, false, cond, not, ℕ, ◌/◌, ◌<◌}
+use Rattle.std.specs.Prelude.{◌≡◌, ◌≢◌, Bool, true, false, not, ℕ, ◌/◌, ◌<◌}
 use Rattle.std.proofs.Math.Path.{refl, sym, ap₂}
 use Rattle.std.proofs.Common.{ap, ◌∙◌, arith, take_all}
 use mathlib.Core.List.{List}
-use Rattle.std.proofs.Math.Option.{Option, none, some, map, bind, map-eq-some_iff, map-eq-none_iff}
+use Rattle.std.proofs.Math.Option.{Option, none, some, bind, map-eq-some_iff, map-eq-none_iff}
 use Rattle.std.proofs.Math.ListN.{length, take}
 use Rattle.std.proofs.lemmas.Bool.{not-true, not-false}
 use Rattle.lists.specs.Lists.{found}
@@ -21,7 +21,7 @@ use Rattle.coder.specs.declared.tail.Tail.TheVariants.{Nothing, Inputs}
 use Rattle.frame.specs.Interleaver.{interleave}
 use Rattle.frame.proofs.laws.Interleaving.{permuting}
 use Rattle.frame.specs.Frame.{Frame, tail1, tail2, sections1, sections2, flags, puncture}
-use Rattle.coder.specs.Coder.{coded_path, sent_for, EncodeCall, EncodeResult, encode_path_checks, encode_settled}
+use Rattle.coder.specs.Coder.{coded_path, sent_for, EncodeCall, encode_path_checks, encode_settled}
 use Rattle.frame.proofs.laws.Checked.{Framed}
 use Rattle.coder.specs.Lent.{encode_result_of}
 use Rattle.coder.specs.laws.Sections.{words_along, bits_of, places_of}
