@@ -12,7 +12,7 @@
  * `index`, the last argument of both decoders, points to one number and has no length. It is not NULL, is aligned, and overlaps no list.
  * The calls keep nothing and use no static data, so several threads may call at once, each with lists of its own.
  *
- * Stack. Measured on x86-64 in a thread that makes one call, whatever the lists' lengths, in bytes and rounded up: turbo_sheet 150,000,
+ * Stack. Measured on x86-64 in a thread that makes one call, whatever the lists' lengths, in bytes and rounded up: turbo_sheet 153,000,
  * turbo_decode 101,000, turbo_polynomial_pattern 25,000, turbo_encode 18,000, turbo_lone_decode 7,600, the others 6,100; some 4,500 of each
  * are the thread's own. A stack must have room for that; the proofs take it to be large enough.
  *
