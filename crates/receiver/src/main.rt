@@ -4,18 +4,22 @@
 // standard error; and a caller that gives the argument `3` is told on descriptor 3 how it ended, by one byte: `0` for a result, `1` for a refusal.
 #![tactic(auto)]
 
-ghost use Rattle.std.specs.Prelude.{◌≡◌, ◌≤◌, length};
+ghost use Rattle.std.specs.Prelude.{◌==◌, ◌≡◌, ◌≤◌, length, slice_index, IfOk, IfSome, OnOk};
+ghost use Rattle.std.specs.Io.KnownBytes.{Appends};
+ghost use Rattle.sheet.specs.Sheet.{answer as answer_to};
+ghost use Rattle.receiver.specs.Bytes.{refuses};
 
+mod ending;
 mod explain;
 mod input;
+mod output;
 
+use ending::Trouble;
 use input::Input;
-use std::alloc::Global;
-use std::fs::{OpenFile, OpenOptions};
-use std::io::{Error, ErrorKind, Write};
+use std::io;
+use std::io::{Read, Write};
 use std::process::ExitCode;
-use std::rt::{Env, Files};
-use std::{fs, io};
+use std::rt::Files;
 
 // Room for a sheet and one byte more, which tells that it is too long.
 fn room() -> [u8; 16385]
@@ -31,113 +35,58 @@ fn page() -> [u8; 24600]
     [0; 24600]
 }
 
-// Some files tell only when they are stored that there is no room for what was written. What stores nothing, as a pipe or a terminal, has no more to tell.
-fn store(rt: &impl Files) -> io::Result<()> {
-    let path = "/dev/fd/1";
-    if !fs::metadata(rt, path).is_ok_and(|found| found.is_file()) {
-        return Ok(());
-    }
-    let Ok(file) = fs::open(rt, path) else {
-        return Ok(());
-    };
-    match file.sync_data() {
-        Err(error) if error.kind() != ErrorKind::InvalidInput => Err(error),
-        _ => Ok(()),
-    }
-}
-
-// Writes a text, all of it, to standard output.
-fn show<R: Files, W: Write>(rt: &R, out: &mut W, text: &[u8]) -> io::Result<()> {
-    out.write_all(text)?;
-    store(rt)
-}
-
-// A byte to descriptor 3, by the name of what is open there.
-fn tell(rt: &impl Files, word: u8) -> io::Result<()> {
-    let mut file = OpenOptions::new().append(true).open(rt, "/dev/fd/3")?;
-    file.write_all(&[word])
-}
-
-// How the program ended, for a caller that asks. One that asks and cannot be told knows by that.
-fn report(rt: &(impl Env + Files), is_refused: bool) {
-    let mut word = [0u8; 2];
-    let Ok(1) = rt.arg(1, &mut word) else {
-        return;
-    };
-    if word[0] == b'3' {
-        let _ = tell(rt, if is_refused { b'1' } else { b'0' });
-    }
-}
-
-// The system's words for an error, which end where its number begins.
-fn before_number(text: &str) -> &str {
-    match text.split_once(" (os error ") {
-        Some((words, _)) => words,
-        None => text,
-    }
-}
-
-// What failed, and why. Without memory for the words alone they come with the number.
-fn fail<W: Write>(alloc: Global, err: &mut W, what: &str, error: Error) -> io::Result<()> {
-    match error.to_string(alloc) {
-        Ok(text) => {
-            let why = before_number(text.as_str());
-            writeln!(err, "receiver: {what}: {why}")
-        }
-        Err(_) => writeln!(err, "receiver: {what}: {error}"),
-    }
-}
-
-// What a shell calls the status of a program whose reader has gone.
-const READER_GONE: u8 = 141;
-
-// The answer is not out, or not all of it. Where nobody reads it any more there is nobody to tell.
-fn unwritten<W: Write>(alloc: Global, err: &mut W, error: Error) -> ExitCode {
-    if error.kind() == ErrorKind::BrokenPipe {
-        return ExitCode::from(READER_GONE);
-    }
-    let _ = fail(alloc, err, "the answer could not be written", error);
-    ExitCode::SUCCESS
-}
-
-// Writes the answer, which has at least one byte, and then what is beside it.
-fn finish<R: AllocGlobal + Env + Files, W: Write, E: Write>(
-    rt: &R,
+// Writes the answer, which has at least one byte, and explains it where it is a refusal, which the answer says.
+fn finish<F: Files, W: Write, E: Write>(
+    files: &F,
     out: &mut W,
     err: &mut E,
     sheet: &[u8],
     answer: &[u8],
-) -> ExitCode
+) -> io::Result<bool>
     requires { 1 ≤ length answer.now }
+    ensures bytes { OnOk result (Appends (W.contents out.old) (W.contents out.new) answer.now) }
+    ensures refused { IfOk result (λ is_refused. is_refused ≡ (slice_index answer.now 0 == 114)) }
 {
-    if let Err(error) = show(rt, out, answer) {
-        return unwritten(rt.alloc(), err, error);
-    }
+    output::show(files, out, answer)?;
     let is_refused = answer[0] == b'r';
     if is_refused {
         let _ = explain::refusal(err, sheet, answer);
     }
-    report(rt, is_refused);
-    ExitCode::SUCCESS
+    Ok(is_refused)
+}
+
+// Reads a sheet to its end and writes its answer, and says whether that is a refusal. Where the bytes of both are known, the whole answer to the whole sheet
+// is out.
+fn serve<F: Files, R: Read, W: Write, E: Write>(
+    files: &F,
+    source: &mut R,
+    out: &mut W,
+    err: &mut E,
+) -> Result<bool, Trouble>
+    ensures bytes { OnOk result (IfSome (R.remaining source.old) (λ sheet.
+        Appends (W.contents out.old) (W.contents out.new) (answer_to sheet))) }
+    ensures refused { IfOk result (λ is_refused. IfSome (R.remaining source.old) (λ sheet. is_refused ≡ refuses sheet)) }
+{
+    let mut sheet = room();
+    let count = match input::read_sheet(source, &mut sheet) {
+        Input::Whole(count) => count,
+        Input::Failed(error) => return Err(Trouble::Unread(error)),
+    };
+    let mut answer = page();
+    let written = sheet::answer(&sheet[..count], &mut answer);
+    match finish(files, out, err, &sheet[..count], &answer[..written]) {
+        Ok(is_refused) => Ok(is_refused),
+        Err(error) => Err(Trouble::Unwritten(error)),
+    }
 }
 
 fn main(rt: HostRuntime) -> ExitCode {
     let mut err = rt.stderr();
-    let mut sheet = room();
-    let count = match input::read_sheet(&mut rt.stdin(), &mut sheet) {
-        Input::Whole(count) => count,
-        Input::Failed(error) => {
-            let _ = fail(rt.alloc(), &mut err, "the sheet could not be read", error);
-            return ExitCode::SUCCESS;
+    match serve(&rt, &mut rt.stdin(), &mut rt.stdout(), &mut err) {
+        Ok(is_refused) => {
+            ending::report(&rt, is_refused);
+            ExitCode::SUCCESS
         }
-    };
-    let mut answer = page();
-    let written = sheet::answer(&sheet[..count], &mut answer);
-    finish(
-        &rt,
-        &mut rt.stdout(),
-        &mut err,
-        &sheet[..count],
-        &answer[..written],
-    )
+        Err(trouble) => ending::explain(rt.alloc(), &mut err, trouble),
+    }
 }
