@@ -10,8 +10,8 @@ use Rattle.refusal.specs.declared.Refusal.TheVariants.{Text}
 use Rattle.refusal.specs.declared.Reply.TheVariants.{Refused}
 use Rattle.refusal.specs.Refusals.{first_of}
 use Rattle.rows.specs.Lines.{lines_of, last_piece, row_count, message_bits, fault_from, text_checks}
-use Rattle.rows.specs.laws.Pieces.{Counted}
-use Rattle.rows.specs.laws.Fitting.{last_empty, rows_are, text_open}
+use Rattle.rows.specs.laws.Pieces.{Counted, cut_some}
+use Rattle.rows.specs.laws.Fitting.{lines_are, last_empty, rows_are, too_long, too_few, too_many, text_fault, text_open, text_done}
 
 module _ {sheet : List ℕ} {count last : ℕ} (counted : Counted 10 sheet count last) where
   pub bits_are : message_bits sheet ≡ count - 1 + cond (leb (length sheet) last) 0 1 - 1 - 2
@@ -36,3 +36,21 @@ pub text_after : (sheet : List ℕ) (n : ℕ) → length sheet ≤ 16384 → 3 �
     fault_from (message_bits sheet) 0 (lines_of sheet) ≡ none → is_empty (last_piece sheet) ≡ false → n ≡ length (lines_of sheet) →
     Refused (Text (n + 1)) ≡ first_of (text_checks sheet)
 text_after sheet n short least most faultless unended same = rw same (text_open sheet short least most faultless unended)
+
+-- what a reply goes by, in the order of the tests
+pub ruleset replying = (
+  lines_are,
+  rows_are,
+  bits_are,
+  open_end,
+  closed_end,
+  found_before,
+  none_before,
+  too_long,
+  too_few,
+  too_many,
+  text_fault,
+  text_after,
+  text_done,
+  cut_some,
+)

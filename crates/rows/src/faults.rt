@@ -71,7 +71,7 @@ pub fn message_bits(sheet: &[u8]) -> usize
 }
 
 // The reply to a sheet's text: 1 with its line, or done. The sheet is only read.
-#[tactic(auto, using(crate::proofs::Replying::bits_are, crate::proofs::Replying::open_end, crate::proofs::Replying::closed_end, crate::proofs::Replying::found_before, crate::proofs::Replying::none_before, crate::specs::laws::Fitting::lines_are, crate::specs::laws::Fitting::rows_are, crate::specs::laws::Fitting::too_long, crate::specs::laws::Fitting::too_few, crate::specs::laws::Fitting::too_many, crate::specs::laws::Fitting::text_fault, crate::proofs::Replying::text_after, crate::specs::laws::Fitting::text_done, crate::specs::laws::Pieces::cut_some), unfolding(refusal::specs::Refusals::place_of, refusal::specs::Refusals::told))]
+#[tactic(auto, using(crate::proofs::Replying::replying), unfolding(refusal::specs::Refusals::place_of, refusal::specs::Refusals::told))]
 pub fn text_reply(sheet: &[u8]) -> Reply
     ensures value { result ≡ first_of (text_checks sheet.now) }
     ensures result_bound { place_of result ≤ 516 }
