@@ -39,3 +39,6 @@ module _ {next words xs : List ℕ} where
 -- every state leads on
 pub leads_from : (next : List ℕ) (s : ℕ) → Leads next 0 → s < length next / 2 → Leads next s
 leads_from next s w l = record { stays = w.stays; starts = omega arith; few = w.few }
+
+-- what code_ring goes by, from state to state
+pub ruleset rings = (none_below_0, none_below_more, ring_is, no_ring, leads_from)

@@ -79,7 +79,7 @@ fn code_tailed(next: &[u8], words: &[u8], inputs: &[u8], tail: usize, out: &mut 
 }
 
 // A ring: the words of its inputs' sections, from the lowest state that they return to itself. False where there is none.
-#[tactic(auto, using(crate::proofs::Rings::none_below_0, crate::proofs::Rings::none_below_more, crate::proofs::Rings::ring_is, crate::proofs::Rings::no_ring, crate::proofs::Rings::leads_from))]
+#[tactic(auto, using(crate::proofs::Rings::rings))]
 fn code_ring(next: &[u8], words: &[u8], inputs: &[u8], out: &mut [u8]) -> bool
     requires leads { Leads next.now 0 }
     requires words_len { length words.now ≡ length next.now }

@@ -25,7 +25,7 @@ fn all_digits(field: &[u8]) -> bool
 }
 
 // One to five digits, the first of several not 0.
-#[tactic(auto, using(crate::specs::laws::Reading::numeral_short, crate::specs::laws::Reading::numeral_long, crate::specs::laws::Reading::numeral_other, crate::specs::laws::Reading::numeral_one, crate::specs::laws::Reading::numeral_several))]
+#[tactic(auto, using(crate::proofs::Reading::numerals))]
 fn is_numeral(field: &[u8]) -> bool
     ensures { result ≡ numeral field.now }
 {
@@ -69,7 +69,7 @@ pub fn read_natural(field: &[u8]) -> Natural
 }
 
 // The opposite of the number that a field is, where it is not 0.
-#[tactic(auto, using(crate::specs::laws::Reading::value_small, crate::specs::laws::Reading::small_fits, crate::specs::laws::Reading::small_signed, crate::specs::laws::Reading::opposite_no, crate::specs::laws::Reading::opposite_zero, crate::specs::laws::Reading::opposite_yes))]
+#[tactic(auto, using(crate::proofs::Reading::opposites))]
 fn opposite(field: &[u8]) -> Integer
     ensures { integer_of result ≡ bind (natural_in field.now) opposite_of }
 {

@@ -39,3 +39,6 @@ module _ (states outputs : ℕ) (next words : List ℕ) where
 
   pub all_own : (s : ℕ) → states ≤ s → ((r : ℕ) → r < s → (get_or words (2 * r) 0 % 2 ≡ 0) × (get_or words (2 * r + 1) 0 % 2 ≡ 1)) → systematic (table_of states outputs next words) ≡ true
   all_own s l h = by-own ∙ at_every_upto (own words) states (λ r g. let (e, f) = h r (omega arith) in unfold own in simp (add-zero, last_bit, e, f))
+
+-- what is_systematic goes by
+pub ruleset own_bits = (not_zero_bit, not_one_bit, no_entry, all_own)

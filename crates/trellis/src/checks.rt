@@ -111,7 +111,7 @@ pub fn table_reply(states: usize, outputs: usize, next: &[u8], words: &[u8]) -> 
 }
 
 // Whether output 1 of every branch is its input bit. A branch that the words have no entry for counts as word 0.
-#[tactic(auto, using(crate::proofs::Systematic::not_zero_bit, crate::proofs::Systematic::not_one_bit, crate::proofs::Systematic::no_entry, crate::proofs::Systematic::all_own))]
+#[tactic(auto, using(crate::proofs::Systematic::own_bits))]
 pub fn is_systematic(states: usize, outputs: usize, next: &[u8], words: &[u8]) -> bool
     ensures { result ≡ systematic (table_of states outputs next.now words.now) }
 {
