@@ -1,59 +1,55 @@
 // The frame decoder: iterations, the frame of zeros, frames by each pair of ends, and document 001's turbo example.
 use crate::{calls, numbers, passes};
-use frame::FrameFormat;
+use frame::{Frame, FrameFormat};
 use std::io;
 use trellis::End;
 
-// The house code.
-fn format(bits: usize, tail: usize, first: End, second: End) -> FrameFormat {
-    FrameFormat {
-        states: 4,
-        outputs: 2,
-        bits: bits,
-        tail: tail,
-        first: first,
-        second: second,
+// A frame of the house code.
+fn house<'a>(
+    pattern: &'a [u32],
+    masks: &'a [u8],
+    tail: usize,
+    first: End,
+    second: End,
+) -> Frame<'a> {
+    Frame {
+        format: FrameFormat {
+            states: 4,
+            outputs: 2,
+            bits: pattern.len(),
+            tail,
+            first,
+            second,
+        },
+        next: b"\x00\x01\x03\x02\x01\x00\x02\x03",
+        words: b"\x00\x03\x02\x01\x00\x03\x02\x01",
+        pattern,
+        masks,
     }
 }
 
 // K = 8, T = 2, mask 7, and all values 0.
 fn put_zeros(rt: &impl Print, iterations: usize) -> io::Result<()> {
-    let a = calls::decode(
-        format(8, 2, End::Zero, End::Zero),
-        &[3, 0, 1, 2, 7, 6, 5, 4],
-        b"\x07",
-        &[0; 32],
-        iterations,
-    );
-    let bits = a.bits;
-    let margins = a.margins;
-    numbers::put_bytes(rt, &bits, 8)?;
-    numbers::put_margins(rt, &margins, 8)?;
-    numbers::end(rt, a.number)
+    let pattern = [3, 0, 1, 2, 7, 6, 5, 4];
+    let frame = house(&pattern, b"\x07", 2, End::Zero, End::Zero);
+    let a = calls::decode(&frame, &[0; 32], iterations);
+    numbers::put_all(rt, &a.bits[..8])?;
+    numbers::put_line(rt, &a.margins[..8], a.reply)
 }
 
-// Values of 1 on the side of each bit.
-fn values(sent: [u8; 32]) -> [i16; 32] {
-    let mut out = [0i16; 32];
-    for i in 0..32 {
-        out[i] = if sent[i] == 1 { 1 } else { -1 };
-    }
-    out
-}
-
-// Message 1 0 under pattern 1 0, coded into so many bits and decoded.
-fn put_coded(rt: &impl Print, first: End, second: End, tail: usize, len: usize) -> io::Result<()> {
-    let n = len % 33;
-    let f = format(2, tail, first, second);
-    let c = calls::encode(f, b"\x01\x00", &[1, 0], b"\x07", n);
-    let sent = c.sent;
-    let received = values(sent);
-    let a = calls::decode(f, &[1, 0], b"\x07", &received[..n], 1);
-    let bits = a.bits;
-    numbers::put_bytes(rt, &sent, n)?;
-    numbers::put(rt, c.number)?;
-    numbers::put_bytes(rt, &bits, 2)?;
-    numbers::end(rt, a.number)
+// Message 1 0 under pattern 1 0, coded and decoded: three bits of each position, and two sections more for each coder that ends at zero. The values are 1 on
+// the side of each bit.
+fn put_coded(rt: &impl Print, first: End, second: End) -> io::Result<()> {
+    let zeros = usize::from(matches!(first, End::Zero)) + usize::from(matches!(second, End::Zero));
+    let n = 6 + 4 * zeros;
+    let tail = if zeros == 0 { 0 } else { 2 };
+    let frame = house(&[1, 0], b"\x07", tail, first, second);
+    let c = calls::encode(&frame, b"\x01\x00", n);
+    let received: [i16; 32] = c.sent.map(|bit| if bit == 1 { 1 } else { -1 });
+    let a = calls::decode(&frame, &received[..n], 1);
+    numbers::put_all(rt, &c.sent[..n])?;
+    print!(rt; "{} ", refusal::number_of(c.reply))?;
+    numbers::put_line(rt, &a.bits[..2], a.reply)
 }
 
 // The document's values are tenths. What masks 6 5 send of each position:
@@ -69,46 +65,35 @@ const READ_BY_PASS_1: [i16; 18] = [
 // Pass 1 of the first iteration is a lone pass without a-priori values.
 fn put_pass_1(rt: &impl Print) -> io::Result<()> {
     let a = passes::house(9, &READ_BY_PASS_1, &[0; 9]);
-    let margins = a.margins;
-    numbers::put_margins(rt, &margins, 9)?;
-    numbers::end(rt, a.number)
+    numbers::put_line(rt, &a.margins[..9], a.reply)
 }
 
 // The margins of the last pass 2.
 fn put_after(rt: &impl Print, iterations: usize) -> io::Result<()> {
-    let a = calls::decode(
-        format(9, 0, End::Zero, End::Open),
-        &[0, 3, 6, 1, 4, 8, 2, 5, 7],
-        b"\x06\x05",
-        &RECEIVED,
-        iterations,
-    );
-    let margins = a.margins;
-    numbers::put_margins(rt, &margins, 9)?;
-    numbers::end(rt, a.number)
+    let pattern = [0, 3, 6, 1, 4, 8, 2, 5, 7];
+    let frame = house(&pattern, b"\x06\x05", 0, End::Zero, End::Open);
+    let a = calls::decode(&frame, &RECEIVED, iterations);
+    numbers::put_line(rt, &a.margins[..9], a.reply)
 }
 
 fn run_pairs(rt: &impl Print) -> io::Result<()> {
     println!(rt;
         "message 1 0, by the ends zero, open and ring of coder 1 and of coder 2: what is sent, reply, what is decoded, reply"
     )?;
-    put_coded(rt, End::Zero, End::Zero, 2, 14)?;
-    put_coded(rt, End::Zero, End::Open, 2, 10)?;
-    put_coded(rt, End::Zero, End::Ring, 2, 10)?;
-    put_coded(rt, End::Open, End::Zero, 2, 10)?;
-    put_coded(rt, End::Open, End::Open, 0, 6)?;
-    put_coded(rt, End::Open, End::Ring, 0, 6)?;
-    put_coded(rt, End::Ring, End::Zero, 2, 10)?;
-    put_coded(rt, End::Ring, End::Open, 0, 6)?;
-    put_coded(rt, End::Ring, End::Ring, 0, 6)
+    let ends = [End::Zero, End::Open, End::Ring];
+    for first in ends {
+        for second in ends {
+            put_coded(rt, first, second)?;
+        }
+    }
+    Ok(())
 }
 
 pub fn run(rt: &impl Print) -> io::Result<()> {
     println!(rt; "a frame of zeros after 1, 32, 33 and 0 iterations: bits, margins and reply")?;
-    put_zeros(rt, 1)?;
-    put_zeros(rt, 32)?;
-    put_zeros(rt, 33)?;
-    put_zeros(rt, 0)?;
+    for iterations in [1, 32, 33, 0] {
+        put_zeros(rt, iterations)?;
+    }
     run_pairs(rt)?;
     // Its margins are sums over paths and ours maxima, so what agrees are signs: positions 3, 4, 6 and 7 wrong in both passes of the first iteration,
     // none after five. In between maxima and three quarters decide otherwise than sums.

@@ -3,16 +3,21 @@
 use mathlib.Core.Path.{◌≡◌, sym, ap, ap₂, ◌∙◌}
 use mathlib.Core.Bool.{cond}
 use mathlib.Core.Option.{none, some}
-use Prim.Native.Nat.{ℕ, suc, ◌+◌, ◌*◌, ◌-◌, ◌<◌, ◌≤◌}
+use Prim.Native.Nat.{ℕ, suc, ◌+◌, ◌*◌, ◌-◌, ◌^◌, ◌<◌, ◌≤◌}
 use native.Mathlib.Nat.{add-zero, mul-suc, mul_comm, mul-le-mul, mul-le-mul_left}
 use native.Mathlib.Numerals.{add-one}
 use native.Mathlib.Omega.{arith}
 use lib.Dec.{eqb}
 use lib.IntN.{ℤ, pos, ◌+ℤ◌}
+use lib.Signed.{mag}
+use mir.Facts.{to_z-of_z}
+use mir.Syntax.{w16, w32}
+use mir.Val.{SFits, hbits, to_z, of_z}
 use lib.ListN.{length, get_or}
 use mathlib.Core.List.{List}
 use Rattle.integers.specs.laws.Bounds.{Within}
-use Rattle.integers.specs.laws.Laws.{within_sum}
+use Rattle.integers.specs.laws.Laws.{within_more, within_sum}
+use Rattle.integers.specs.laws.Linear.{ints, fits_of}
 use Rattle.trellis.specs.Table.{Table, next_state}
 use Rattle.trellis.specs.Path.{Values, apriori_at, channel_at, branch_metric}
 use Rattle.trellis.specs.Outcome.{larger}
@@ -30,6 +35,9 @@ use Rattle.butterfly.specs.laws.Flights.{Winged}
 use Rattle.butterfly.specs.laws.Tables.{own_at, other_at}
 
 -- ---- the values
+
+pub short_fits : (z : ℤ) → Within 8191 z → SFits w16 z
+short_fits z = simp ints (omega arith)
 
 module _ {t : Table} {n : ℕ} {v : Values} {half : ℕ} {signs : List ℤ} (w : Winged t n v half signs) (k : ℕ) where
   -- as they are read
@@ -51,6 +59,22 @@ module _ {t : Table} {n : ℕ} {v : Values} {half : ℕ} {signs : List ℤ} (w :
 
   pub other_small : Within 1023 (other_at t v k)
   other_small = (values_bounded w.pass).channel k 1
+
+  -- as they are worked out
+  module _ {r : ℤ} (r-fits : mag r < 2 ^ hbits w32) where
+    pub own_is :
+        r ≡ to_z w16 (of_z w16 (get_or v.apriori k (pos 0))) +ℤ to_z w16 (of_z w16 (get_or v.channel (2 * k) (pos 0)))
+        → to_z w32 (of_z w32 r) ≡ own_at t v k
+    own_is is =
+        let a-fits : SFits w16 (get_or v.apriori k (pos 0)) = short_fits _ read_small.0 in
+        let y-fits : SFits w16 (get_or v.channel (2 * k) (pos 0)) = short_fits _ (within_more (omega arith) read_small.1) in
+        to_z-of_z {w = w32} (fits_of r-fits) ∙ rw (to_z-of_z a-fits, to_z-of_z y-fits) at is ∙ own_read
+
+    pub other_is : r ≡ to_z w16 (of_z w16 (get_or v.channel (2 * k + 1) (pos 0))) → to_z w32 (of_z w32 r) ≡ other_at t v k
+    other_is is =
+        let y-small : Within 1023 (get_or v.channel (2 * k + 1) (pos 0)) = rw other_read other_small in
+        let y-fits : SFits w16 (get_or v.channel (2 * k + 1) (pos 0)) = short_fits _ (within_more (omega arith) y-small) in
+        to_z-of_z {w = w32} (fits_of r-fits) ∙ rw (to_z-of_z y-fits) at is ∙ other_read
 
   -- and within their lists, which are not long; so is the section's row in the working list
   pub placed : k < n → (2 * k + 1 < length v.channel) × (k < length v.apriori) × (length v.channel ≤ 8192) × (half ≤ 8)

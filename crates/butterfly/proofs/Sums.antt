@@ -8,6 +8,8 @@ use Prim.Native.Nat.{ℕ, suc, ◌+◌, ◌*◌, ◌^◌, ◌≤◌, ◌<◌}
 use native.Mathlib.Omega.{arith}
 use lib.IntN.{ℤ, pos, negsuc, neg_ℤ, ◌+ℤ◌, ◌-ℤ◌, ◌*ℤ◌}
 use lib.Signed.{mag}
+use lib.ListN.{get_or}
+use mathlib.Core.List.{List}
 use mir.Facts.{to_z-of_z}
 use mir.Syntax.{w32}
 use mir.Val.{SFits, hbits, to_z, of_z}
@@ -21,8 +23,9 @@ use Rattle.trellis.specs.laws.Sizes.{Small}
 use Rattle.trellis.specs.laws.Sizes.{absent, present}
 use Rattle.trellis.proofs.laws.Sizes.{small_known}
 use Rattle.metrics.specs.Words.{is_nothing, held}
-use Rattle.metrics.specs.laws.Held.{held_small}
-use Rattle.butterfly.specs.laws.Metrics.{IsSign, is_minus, gain_of}
+use Rattle.metrics.specs.laws.Held.{found_some, held_small}
+use Rattle.lists.specs.Lists.{found}
+use Rattle.butterfly.specs.laws.Metrics.{IsSign, is_minus, gain_of, gain_at}
 
 pub small_fits : (z : ℤ) → Within 200000000 z → SFits w32 z
 small_fits z = simp ints (omega arith)
@@ -32,6 +35,22 @@ zero_minus z = simp ints (omega arith)
 
 pub opposite_small : {m : ℕ} {z : ℤ} → Within m z → Within m (neg_ℤ z)
 opposite_small {m} {z} = simp ints (omega arith)
+
+-- an opposite metric, as it is worked out
+pub opposite_fits : {g : ℤ} → Within 10237 g → SFits w32 (pos 0 -ℤ g)
+opposite_fits {g} small = rw (zero_minus g) (small_fits _ (within_more (omega arith) (opposite_small small)))
+
+pub opposite_read : {g : ℤ} → Within 10237 g → to_z w32 (of_z w32 (pos 0 -ℤ g)) ≡ neg_ℤ g
+opposite_read {g} small = to_z-of_z (opposite_fits small) ∙ zero_minus g
+
+-- a metric that is there is read as it stands
+pub stands :
+    {m : ℕ} (z : ℤ) → m ≤ 200000000 → found (held z) ≡ true → Small m (held z)
+    → held (to_z w32 (of_z w32 z)) ≡ some (to_z w32 (of_z w32 z))
+stands z few is small =
+    let there : held z ≡ some z = found_some z is in
+    let fits : SFits w32 z = small_fits z (within_more few (small_known (rw there at small))) in
+    rw (to_z-of_z fits) there
 
 -- a word that comes back from a local stands for what it stood for
 pub kept : (z : ℤ) {X : Option ℤ} → mag z < 2 ^ hbits w32 → held z ≡ X → held (to_z w32 (of_z w32 z)) ≡ X
@@ -92,3 +111,12 @@ product_fits a x few sign small = rw (sign_times a x sign) (small_fits _ (within
 
 pub gain_small : (a b : ℤ) {x y : ℤ} → Within 9214 x → Within 1023 y → Within 10237 (gain_of a b x y)
 gain_small a b own other = within_sum (signed_within _ own) (signed_within _ other)
+
+-- a wing's metric, as it is read
+module _ (signs : List ℤ) (i : ℕ) {own other r : ℤ} (own_small : Within 9214 own) (other_small : Within 1023 other) (r-fits : mag r < 2 ^ hbits w32)
+    (is : r ≡ gain_at signs own other i) where
+  pub gain_read : to_z w32 (of_z w32 r) ≡ gain_at signs own other i
+  gain_read = to_z-of_z {w = w32} (fits_of r-fits) ∙ is
+
+  pub gain_within : Within 10237 (to_z w32 (of_z w32 r))
+  gain_within = rw gain_read (gain_small (get_or signs i (pos 0)) (get_or signs (8 + i) (pos 0)) own_small other_small)

@@ -94,12 +94,8 @@ pub fn tell(
         (bests_at k margins.old extrinsics.old))
         k marks.new margins.new extrinsics.new }
 {
-    let mut k: usize = 0;
-    while k < sections {
-        let a = apriori[k];
-        let y = channel[2 * k];
-        let own = own_of(a, y);
+    for k in 0..sections {
+        let own = own_of(apriori[k], channel[2 * k]);
         tell_at(k, own, marks, margins, extrinsics);
-        k += 1;
     }
 }

@@ -7,8 +7,7 @@ ghost use Rattle.metrics.specs.Words.{row};
 ghost use Rattle.butterfly.specs.laws.Flights.{Winged, Flight, states_of, Reach, Returning, Returned, Stage};
 ghost use Rattle.butterfly.specs.laws.Metrics.{Reached};
 
-use crate::step::Kind;
-use crate::sweep::{forward, gather};
+use crate::sweep::{Course, forward, gather};
 use trellis::End;
 
 // Where it holds, every state has a metric.
@@ -16,21 +15,7 @@ fn all_reached(states: usize, m: [i32; 16]) -> bool
     requires { states ≤ 16 }
     ensures { result ≡ true → Reached states (row m) }
 {
-    let mut s: usize = 0;
-    while s < states {
-        let x = m[s];
-        if !metrics::reached(x) {
-            return false;
-        }
-        s += 1;
-    }
-    true
-}
-
-fn both(a: bool, b: bool) -> bool
-    ensures { result ≡ (a && b) }
-{
-    if a { b } else { false }
+    m[..states].iter().all(|x| metrics::reached(*x))
 }
 
 // The bits of a register with twice so many states.
@@ -57,10 +42,7 @@ fn late(early: usize, sections: usize) -> usize
     requires { early ≤ sections }
     ensures { (early ≤ result) × (result ≤ sections) }
 {
-    if sections - early < early {
-        return sections;
-    }
-    sections - early
+    early.max(sections - early)
 }
 
 // What the sweep forwards gives: the metrics after the last section, and whether every state is reached from the first plain section on.
@@ -71,153 +53,118 @@ pub struct Front {
 }
 
 // The metrics before every section, of paths that start in a state, in the working list, and those after the last.
-fn forward_all(
-    kind: Kind,
-    signs: &[i32; 16],
-    early: usize,
-    sections: usize,
-    channel: &[i16],
-    apriori: &[i16],
-    start: usize,
-    work: &mut [i32],
-) -> Front
-    requires flight { Flight kind signs.now channel.now apriori.now sections }
-    requires early_le_sections { early ≤ sections }
-    requires work_len { length work.old ≡ (sections + 1) * states_of kind }
+fn forward_all(course: Course, early: usize, start: usize, work: &mut [i32]) -> Front
+    requires flight { Flight course.kind course.signs.now course.channel.now course.apriori.now course.sections }
+    requires early_le_sections { early ≤ course.sections }
+    requires work_len { length work.old ≡ (course.sections + 1) * states_of course.kind }
     ensures { (t : Table)
-        → Winged t sections (values_of channel.now apriori.now) kind.half signs.now
-        → Reach t sections (values_of channel.now apriori.now)
-        start early (states_of kind) result.full result.metrics work.new }
+        → Winged t course.entry.sections (values_of course.entry.channel.now course.entry.apriori.now) course.entry.kind.half course.entry.signs.now
+        → Reach t course.entry.sections (values_of course.entry.channel.now course.entry.apriori.now)
+        start early (states_of course.entry.kind) result.full result.metrics work.new }
 {
-    let states = kind.half + kind.half;
     let first = metrics::beginning(start);
-    let a = forward(false, kind, signs, 0, early, channel, apriori, first, work);
-    let full = all_reached(states, a);
-    let z = forward(
-        full, kind, signs, early, sections, channel, apriori, a, work,
-    );
-    Front {
-        metrics: z,
-        full: full,
-    }
+    let a = forward(false, course, 0, early, first, work);
+    let full = all_reached(course.kind.half + course.kind.half, a);
+    let z = forward(full, course, early, course.sections, a, work);
+    Front { metrics: z, full }
 }
 
 // The best metrics at every position with those of the paths that start in one state more, whose metrics stand in the working list.
 fn gather_back(
     full: bool,
-    kind: Kind,
-    signs: &[i32; 16],
+    course: Course,
     early: usize,
-    sections: usize,
-    channel: &[i16],
-    apriori: &[i16],
     last: [i32; 16],
     first: bool,
     margins: &mut [i32],
     extrinsics: &mut [i32],
     work: &[i32],
 )
-    requires returning { Returning kind signs.now channel.now apriori.now sections early full last work.now }
-    requires early_le_sections { early ≤ sections }
-    requires work_len { length work.now ≡ (sections + 1) * states_of kind }
-    requires margins_len { length margins.old ≡ sections }
-    requires extrinsics_len { length extrinsics.old ≡ sections }
-    ensures { Returned kind signs.now channel.now apriori.now sections
+    requires returning { Returning course.kind course.signs.now course.channel.now course.apriori.now course.sections early full last work.now }
+    requires early_le_sections { early ≤ course.sections }
+    requires work_len { length work.now ≡ (course.sections + 1) * states_of course.kind }
+    requires margins_len { length margins.old ≡ course.sections }
+    requires extrinsics_len { length extrinsics.old ≡ course.sections }
+    ensures { Returned course.entry.kind course.entry.signs.now course.entry.channel.now course.entry.apriori.now course.entry.sections
         last first work.now
         margins.old extrinsics.old margins.new extrinsics.new }
 {
-    let states = kind.half + kind.half;
+    let states = course.kind.half + course.kind.half;
+    let sections = course.sections;
     let to = late(early, sections);
     let z = gather(
-        false, kind, signs, to, sections, channel, apriori, last, first, margins, extrinsics, work,
+        false, course, to, sections, last, first, margins, extrinsics, work,
     );
-    let plain = both(full, all_reached(states, z));
+    let plain = full && all_reached(states, z);
     let a = gather(
-        plain, kind, signs, early, to, channel, apriori, z, first, margins, extrinsics, work,
+        plain, course, early, to, z, first, margins, extrinsics, work,
     );
-    gather(
-        false, kind, signs, 0, early, channel, apriori, a, first, margins, extrinsics, work,
-    );
+    gather(false, course, 0, early, a, first, margins, extrinsics, work);
 }
 
 // One state to start in more, where `any` says whether a state before it has a path. Until one has, no list but the working list is written.
 fn gather_from(
-    kind: Kind,
-    signs: &[i32; 16],
+    course: Course,
     end: End,
-    sections: usize,
-    channel: &[i16],
-    apriori: &[i16],
     start: usize,
     any: bool,
     margins: &mut [i32],
     extrinsics: &mut [i32],
     work: &mut [i32],
 ) -> bool
-    requires flight { Flight kind signs.now channel.now apriori.now sections }
-    requires start_bound { start < starts_of (states_of kind) end }
-    requires work_len { length work.old ≡ (sections + 1) * states_of kind }
-    requires margins_len { length margins.old ≡ sections }
-    requires extrinsics_len { length extrinsics.old ≡ sections }
+    requires flight { Flight course.kind course.signs.now course.channel.now course.apriori.now course.sections }
+    requires start_bound { start < starts_of (states_of course.kind) end }
+    requires work_len { length work.old ≡ (course.sections + 1) * states_of course.kind }
+    requires margins_len { length margins.old ≡ course.sections }
+    requires extrinsics_len { length extrinsics.old ≡ course.sections }
     ensures stage { (t : Table)
-        → Winged t sections (values_of channel.now apriori.now) kind.half signs.now
-        → Stage t (values_of channel.now apriori.now)
-        end sections start any margins.old extrinsics.old
-        → Stage t (values_of channel.now apriori.now)
-        end sections (start + 1) result margins.new extrinsics.new }
+        → Winged t course.entry.sections (values_of course.entry.channel.now course.entry.apriori.now) course.entry.kind.half course.entry.signs.now
+        → Stage t (values_of course.entry.channel.now course.entry.apriori.now)
+        end course.entry.sections start any margins.old extrinsics.old
+        → Stage t (values_of course.entry.channel.now course.entry.apriori.now)
+        end course.entry.sections (start + 1) result margins.new extrinsics.new }
     ensures margins_unchanged { result ≡ false
         → (margins.new ≡ margins.old)
         × (extrinsics.new ≡ extrinsics.old)
         × (any ≡ false) }
 {
-    let early = edge(kind.half, sections);
-    let front = forward_all(kind, signs, early, sections, channel, apriori, start, work);
+    let early = edge(course.kind.half, course.sections);
+    let front = forward_all(course, early, start, work);
     let metrics = front.metrics;
     let last = metrics::ending(end, start);
-    let path = metrics::arrived(metrics, last, kind.half + kind.half);
-    if both(!any, !path) {
-        return false;
+    let path = metrics::arrived(metrics, last, course.kind.half + course.kind.half);
+    let some = any || path;
+    if some {
+        gather_back(
+            front.full, course, early, last, !any, margins, extrinsics, work,
+        );
     }
-    gather_back(
-        front.full, kind, signs, early, sections, channel, apriori, last, !any, margins,
-        extrinsics, work,
-    );
-    true
+    some
 }
 
 // Whether there is a path; if there is, the best metrics of all paths at every position.
 pub fn gather_all(
-    kind: Kind,
-    signs: &[i32; 16],
+    course: Course,
     end: End,
-    sections: usize,
-    channel: &[i16],
-    apriori: &[i16],
     margins: &mut [i32],
     extrinsics: &mut [i32],
     work: &mut [i32],
 ) -> bool
-    requires flight { Flight kind signs.now channel.now apriori.now sections }
-    requires work_len { length work.old ≡ (sections + 1) * states_of kind }
-    requires margins_len { length margins.old ≡ sections }
-    requires extrinsics_len { length extrinsics.old ≡ sections }
+    requires flight { Flight course.kind course.signs.now course.channel.now course.apriori.now course.sections }
+    requires work_len { length work.old ≡ (course.sections + 1) * states_of course.kind }
+    requires margins_len { length margins.old ≡ course.sections }
+    requires extrinsics_len { length extrinsics.old ≡ course.sections }
     ensures stage { (t : Table)
-        → Winged t sections (values_of channel.now apriori.now) kind.half signs.now
-        → Stage t (values_of channel.now apriori.now)
-        end sections (starts_of (states_of kind) end) result margins.new extrinsics.new }
+        → Winged t course.entry.sections (values_of course.entry.channel.now course.entry.apriori.now) course.entry.kind.half course.entry.signs.now
+        → Stage t (values_of course.entry.channel.now course.entry.apriori.now)
+        end course.entry.sections (starts_of (states_of course.entry.kind) end) result margins.new extrinsics.new }
     ensures margins_unchanged { result ≡ false
         → (margins.new ≡ margins.old)
         × (extrinsics.new ≡ extrinsics.old) }
 {
-    let count = metrics::starts(end, kind.half + kind.half);
     let mut any = false;
-    let mut start: usize = 0;
-    while start < count {
-        let path = gather_from(
-            kind, signs, end, sections, channel, apriori, start, any, margins, extrinsics, work,
-        );
-        any = path;
-        start += 1;
+    for start in 0..metrics::starts(end, course.kind.half + course.kind.half) {
+        any = gather_from(course, end, start, any, margins, extrinsics, work);
     }
     any
 }

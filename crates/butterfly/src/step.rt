@@ -8,11 +8,12 @@ ghost use Rattle.trellis.specs.laws.Sizes.{Small};
 ghost use Rattle.trellis.specs.laws.Sweeps.{advance};
 ghost use Rattle.metrics.specs.Words.{held, row, row_at};
 ghost use Rattle.siso.specs.laws.Held.{Held};
-ghost use Rattle.butterfly.specs.laws.Metrics.{IsSign, is_minus, gain_of, gain_at, straight_at, Wings, Ready, Reached, Backed};
+ghost use Rattle.butterfly.specs.laws.Metrics.{IsSign, is_minus, gain_of, gain_at, straight_at, Signs, Wings, Reached, Backed};
 
 use metrics::{NOTHING, larger};
 
-// Which steps are for a table: how many wings it has, and whether it has the house code's signs or those of 3GPP's code.
+// Which steps are for a table: how many wings it has, and whether it has the house code's signs or those of 3GPP's code. Two flags: with an enum in their
+// place a pass took 1.21 times as long for the house code and 1.29 times for 3GPP's.
 #[derive(Clone, Copy)]
 pub struct Kind {
     pub half: usize,
@@ -25,6 +26,15 @@ pub const HOUSE: [i32; 16] = [-1, 1, 0, 0, 0, 0, 0, 0, -1, -1, 0, 0, 0, 0, 0, 0]
 
 pub const GPP: [i32; 16] = [-1, -1, 1, 1, 0, 0, 0, 0, -1, 1, -1, 1, 0, 0, 0, 0];
 
+// What the values of a section tell: of its own bit, a-priori and systematic value together, and of its parity.
+#[derive(Clone, Copy)]
+pub struct Values {
+    pub own: i32,
+    pub other: i32,
+    ghost own_small: { Within 9214 own },
+    ghost other_small: { Within 1023 other },
+}
+
 // A metric with a branch's added, if it is there. Where `plain` holds it is, and no test is made.
 fn plus(plain: bool, m: i32, g: i32) -> i32
     requires small { Small 50311168 (held m) }
@@ -32,10 +42,11 @@ fn plus(plain: bool, m: i32, g: i32) -> i32
     requires m_value { plain ≡ true → held m ≡ some m }
     ensures { held result ≡ sum (held m) (some g) }
 {
-    if plain {
-        return m + g;
+    if plain || m != NOTHING {
+        m + g
+    } else {
+        NOTHING
     }
-    if m == NOTHING { NOTHING } else { m + g }
 }
 
 // The metric before a branch and that from the branch on, if both are there. Where `plain` holds they are.
@@ -45,24 +56,20 @@ fn meet(plain: bool, f: i32, m: i32) -> i32
     requires f_value { plain ≡ true → (held f ≡ some f) × (held m ≡ some m) }
     ensures { held result ≡ sum (held f) (held m) }
 {
-    if plain {
-        return f + m;
+    if plain || (f != NOTHING && m != NOTHING) {
+        f + m
+    } else {
+        NOTHING
     }
-    if f == NOTHING {
-        return NOTHING;
-    }
-    if m == NOTHING { NOTHING } else { f + m }
 }
 
 // The metric of a branch, from the signs of its input bit and of its parity.
-fn gain(input: i32, parity: i32, own: i32, other: i32) -> i32
+fn gain(input: i32, parity: i32, values: Values) -> i32
     requires sign { IsSign input }
     requires sign_2 { IsSign parity }
-    requires within { Within 9214 own }
-    requires within_2 { Within 1023 other }
-    ensures { result ≡ gain_of input parity own other }
+    ensures { result ≡ gain_of input parity values.own values.other }
 {
-    input * own + parity * other
+    input * values.own + parity * values.other
 }
 
 // The larger of x by a branch of metric h and of y by one of the opposite metric.
@@ -100,15 +107,13 @@ fn by_sign(sign: i32, minus: i32, plus: i32) -> i32
 }
 
 // The metric of wing i.
-fn gain_at(signs: &[i32; 16], i: usize, own: i32, other: i32) -> i32
+fn gain_at(signs: &[i32; 16], i: usize, values: Values) -> i32
     requires i_bound { i < 8 }
     requires sign { IsSign (get_or signs.now i (pos 0)) }
     requires sign_2 { IsSign (get_or signs.now (8 + i) (pos 0)) }
-    requires within { Within 9214 own }
-    requires within_2 { Within 1023 other }
-    ensures { result ≡ gain_at signs.now own other i }
+    ensures { result ≡ gain_at signs.now values.own values.other i }
 {
-    gain(signs[i], signs[8 + i], own, other)
+    gain(signs[i], signs[8 + i], values)
 }
 
 // The better of two paths through wing i by branches of metric h, to x from the one of its states and to y from the other. The metrics before the section stand
@@ -150,25 +155,23 @@ pub fn forwards(
     plain: bool,
     half: usize,
     signs: &[i32; 16],
-    own: i32,
-    other: i32,
+    values: Values,
     m: [i32; 16],
 ) -> [i32; 16]
-    requires ready { Ready half signs.now own other }
+    requires few { half ≤ 8 }
+    requires signed_by { Signs half signs.now }
     requires held { Held (half + half) (row m) }
     requires reached { plain ≡ true → Reached (half + half) (row m) }
-    ensures { (target : ℕ → ℕ → ℕ) (branch-metric : ℕ → ℕ → ℤ) → Wings target branch-metric half signs.now own other
+    ensures { (target : ℕ → ℕ → ℕ) (branch-metric : ℕ → ℕ → ℤ) → Wings target branch-metric half signs.now values.own values.other
         → (s : ℕ) → s < half + half → row result s ≡ advance target branch-metric (half + half) (row m) s }
 {
     let mut out = [0; 16];
-    let mut i: usize = 0;
-    while i < half {
-        let h = gain_at(signs, i, own, other);
+    for i in 0..half {
+        let h = gain_at(signs, i, values);
         let p = m[i];
         let q = m[i + half];
         out[2 * i] = either(plain, p, q, h);
         out[2 * i + 1] = either(plain, q, p, h);
-        i += 1;
     }
     out
 }
@@ -186,41 +189,37 @@ pub fn backwards(
     plain: bool,
     half: usize,
     signs: &[i32; 16],
-    own: i32,
-    other: i32,
+    values: Values,
     m: [i32; 16],
     work: &[i32],
     at: usize,
 ) -> Back
-    requires ready { Ready half signs.now own other }
+    requires few { half ≤ 8 }
+    requires signed_by { Signs half signs.now }
     requires held { Held (half + half) (row m) }
     requires half_in_bounds { at + (half + half) ≤ length work.now }
     requires held_2 { Held (half + half) (row_at work.now at) }
     requires reached { plain ≡ true → Reached (half + half) (row m) × Reached (half + half) (row_at work.now at) }
-    ensures { (target : ℕ → ℕ → ℕ) (branch-metric : ℕ → ℕ → ℤ) → Wings target branch-metric half signs.now own other
+    ensures { (target : ℕ → ℕ → ℕ) (branch-metric : ℕ → ℕ → ℤ) → Wings target branch-metric half signs.now values.own values.other
         → Backed target branch-metric half m work.now at result.metrics result.zero result.one }
 {
     let mut out = [0; 16];
     let mut zero = NOTHING;
     let mut one = NOTHING;
-    let mut i: usize = 0;
-    while i < half {
-        let h = gain_at(signs, i, own, other);
+    for i in 0..half {
+        let h = gain_at(signs, i, values);
         let p = m[2 * i];
         let q = m[2 * i + 1];
         out[i] = either(plain, p, q, h);
         out[i + half] = either(plain, q, p, h);
         let straight = through_at(plain, work, at, i, half, p, q, h);
         let crossed = through_at(plain, work, at, i, half, q, p, 0 - h);
-        let best0 = raised(zero, signs, i, straight, crossed);
-        zero = best0;
-        let best1 = raised(one, signs, i, crossed, straight);
-        one = best1;
-        i += 1;
+        zero = raised(zero, signs, i, straight, crossed);
+        one = raised(one, signs, i, crossed, straight);
     }
     Back {
         metrics: out,
-        zero: zero,
-        one: one,
+        zero,
+        one,
     }
 }

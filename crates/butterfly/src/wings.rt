@@ -5,116 +5,30 @@ ghost use Rattle.butterfly.specs.laws.Tables.{Crosswise, Opposite, IsWing, HasSt
 ghost use Rattle.butterfly.specs.laws.Tables.{zero_parity, sign_of, AreSigns};
 
 use crate::step::{GPP, HOUSE, Kind};
+use trellis::Table;
 
 // Whether two states lead to an even state and to the one after it, crosswise: where bit 0 and bit 1 lead from the one, then from the other.
 fn are_crosswise(even: usize, zero: u8, one: u8, far_zero: u8, far_one: u8) -> bool
     requires { even < 16 }
     ensures { result ≡ true → Crosswise even zero one far_zero far_one }
 {
-    if far_zero != one {
-        return false;
-    }
-    if far_one != zero {
-        return false;
-    }
-    let first = zero as usize;
-    let second = one as usize;
-    if first == even {
-        return second == even + 1;
-    }
-    if first != even + 1 {
-        return false;
-    }
-    second == even
+    let odd = even + 1;
+    let leads = (usize::from(zero), usize::from(one));
+    far_zero == one && far_one == zero && (leads == (even, odd) || leads == (odd, even))
 }
 
 // Whether two states have the same words, and each of them opposite ones for its two bits, where output 1 is the bit.
 fn are_opposite(zero: u8, one: u8, far_zero: u8, far_one: u8) -> bool
     ensures { result ≡ true → Opposite zero one far_zero far_one }
 {
-    if far_zero != zero {
-        return false;
-    }
-    if far_one != one {
-        return false;
-    }
-    if zero == 0 {
-        return one == 3;
-    }
-    if zero != 2 {
-        return false;
-    }
-    one == 1
-}
-
-// Whether states i and i + half are a wing.
-fn is_wing(half: usize, i: usize, next: &[u8], words: &[u8]) -> bool
-    requires i_lt_half { i < half }
-    requires half_bound { half ≤ 8 }
-    requires next_len { length next.now ≡ 2 * (half + half) }
-    requires words_len { length words.now ≡ 2 * (half + half) }
-    ensures { result ≡ true → IsWing next.now words.now half i }
-{
-    let near = 2 * i;
-    let far = 2 * (i + half);
-    if !are_crosswise(near, next[near], next[near + 1], next[far], next[far + 1]) {
-        return false;
-    }
-    are_opposite(words[near], words[near + 1], words[far], words[far + 1])
-}
-
-// Whether every state is in a wing.
-fn are_wings(half: usize, next: &[u8], words: &[u8]) -> bool
-    requires half_bound { half ≤ 8 }
-    requires next_len { length next.now ≡ 2 * (half + half) }
-    requires words_len { length words.now ≡ 2 * (half + half) }
-    ensures { result ≡ true
-        → (i : ℕ) → i < half → IsWing next.now words.now half i }
-{
-    let mut i: usize = 0;
-    while i < half {
-        if !is_wing(half, i, next, words) {
-            return false;
-        }
-        i += 1;
-    }
-    true
+    far_zero == zero && far_one == one && matches!((zero, one), (0, 3) | (2, 1))
 }
 
 // Whether the steps are for a table of so many states.
 fn has_steps(states: usize) -> bool
     ensures { result ≡ true → HasSteps states }
 {
-    if states == 4 {
-        return true;
-    }
-    if states == 8 {
-        return true;
-    }
-    states == 16
-}
-
-// Whether a table is a butterfly, whatever the lists.
-pub fn is_butterfly(states: usize, outputs: usize, next: &[u8], words: &[u8]) -> bool
-    ensures { result ≡ true
-        → IsButterfly states outputs next.now words.now }
-{
-    if outputs != 2 {
-        return false;
-    }
-    if !has_steps(states) {
-        return false;
-    }
-    if next.len() != 2 * states {
-        return false;
-    }
-    if words.len() != 2 * states {
-        return false;
-    }
-    if !trellis::is_systematic(states, outputs, next, words) {
-        return false;
-    }
-    are_wings(states / 2, next, words)
+    matches!(states, 4 | 8 | 16)
 }
 
 // Whether bit 0 leads straight on from state i, by where it leads.
@@ -122,18 +36,15 @@ fn is_straight(i: usize, zero: u8) -> bool
     requires { i < 8 }
     ensures { result ≡ eqb zero (2 * i) }
 {
-    zero as usize == 2 * i
+    usize::from(zero) == 2 * i
 }
 
 // Whether output 2 is 0 in the word of the bit that leads straight on.
 fn has_zero_parity(straight: bool, zero: u8, one: u8) -> bool
     ensures { result ≡ zero_parity (cond straight zero one) }
 {
-    if straight {
-        zero / 2 % 2 == 0
-    } else {
-        one / 2 % 2 == 0
-    }
+    let word = if straight { zero } else { one };
+    word / 2 % 2 == 0
 }
 
 // The sign of a bit.
@@ -143,69 +54,99 @@ fn sign_of(zero: bool) -> i32
     if zero { -1 } else { 1 }
 }
 
-// The signs of each wing's branch straight on: its input bit's from entry 0 on, its parity's from entry 8 on.
-pub fn signs(half: usize, next: &[u8], words: &[u8]) -> [i32; 16]
-    requires half_bound { half ≤ 8 }
-    requires next_len { length next.now ≡ 2 * (half + half) }
-    requires words_len { length words.now ≡ 2 * (half + half) }
-    ensures { AreSigns next.now words.now half result }
-{
-    let mut all = [0; 16];
-    let mut i: usize = 0;
-    while i < half {
-        let straight = is_straight(i, next[2 * i]);
-        let parity = has_zero_parity(straight, words[2 * i], words[2 * i + 1]);
-        all[i] = sign_of(straight);
-        all[8 + i] = sign_of(parity);
-        i += 1;
-    }
-    all
-}
-
 // Whether two tables have the same signs in their first wings.
 fn are_same(count: usize, a: &[i32; 16], b: &[i32; 16]) -> bool
     requires { count ≤ 8 }
     ensures { result ≡ true → SameSigns count a.now b.now }
 {
-    let mut i: usize = 0;
-    while i < count {
-        if a[i] != b[i] {
-            return false;
-        }
-        if a[8 + i] != b[8 + i] {
-            return false;
-        }
-        i += 1;
-    }
-    true
+    a[..count] == b[..count] && a[8..8 + count] == b[8..8 + count]
 }
 
-// Which steps are for a table with these signs.
-pub fn kind_of(half: usize, signs: &[i32; 16]) -> Kind
-    requires half_bound { half ≤ 8 }
-    requires half_value { (half ≡ 2 → ⊥) → (half ≡ 4 → ⊥) → half ≡ 8 }
-    requires signs { Signs half signs.now }
-    ensures { Known result signs.now × (result.half ≡ half) }
+// The lists of a table that the steps are for: where its branches lead and their words, of twice so many states as it may have wings.
+#[derive(Clone, Copy)]
+pub struct Wings<'a> {
+    pub half: usize,
+    pub next: &'a [u8],
+    pub words: &'a [u8],
+    ghost few: { half ≤ 8 },
+    ghost else_eight: { (half ≡ 2 → ⊥) → (half ≡ 4 → ⊥) → half ≡ 8 },
+    ghost next_len: { length next.now ≡ 2 * (half + half) },
+    ghost words_len: { length words.now ≡ 2 * (half + half) },
+}
+
+impl<'a> Wings<'a> {
+    // Whether states i and i + half are a wing.
+    fn is_wing(&self, i: usize) -> bool
+        requires { i < self.now.half }
+        ensures { result ≡ true → IsWing self.now.next.now self.now.words.now self.now.half i }
+    {
+        let near = 2 * i;
+        let far = 2 * (i + self.half);
+        let (next, words) = (self.next, self.words);
+        are_crosswise(near, next[near], next[near + 1], next[far], next[far + 1])
+            && are_opposite(words[near], words[near + 1], words[far], words[far + 1])
+    }
+
+    // Whether every state is in a wing.
+    fn are_all(&self) -> bool
+        ensures { result ≡ true
+            → (i : ℕ) → i < self.now.half → IsWing self.now.next.now self.now.words.now self.now.half i }
+    {
+        for i in 0..self.half {
+            if !self.is_wing(i) {
+                return false;
+            }
+        }
+        true
+    }
+
+    // The signs of each wing's branch straight on: its input bit's from entry 0 on, its parity's from entry 8 on.
+    pub fn signs(&self) -> [i32; 16]
+        ensures { AreSigns self.now.next.now self.now.words.now self.now.half result }
+    {
+        let (half, next, words) = (self.half, self.next, self.words);
+        let mut all = [0; 16];
+        for i in 0..half {
+            let straight = is_straight(i, next[2 * i]);
+            let parity = has_zero_parity(straight, words[2 * i], words[2 * i + 1]);
+            all[i] = sign_of(straight);
+            all[8 + i] = sign_of(parity);
+        }
+        all
+    }
+
+    // Which steps are for the table with these signs.
+    pub fn kind(&self, signs: &[i32; 16]) -> Kind
+        requires { Signs self.now.half signs.now }
+        ensures { Known result signs.now × (result.half ≡ self.now.half) }
+    {
+        let half = self.half;
+        Kind {
+            half,
+            house: half == 2 && are_same(2, signs, &HOUSE),
+            gpp: half == 4 && are_same(4, signs, &GPP),
+        }
+    }
+}
+
+// Whether a table is a butterfly, whatever the lists.
+pub fn is_butterfly(table: &Table) -> bool
+    ensures { result ≡ true
+        → IsButterfly table.now.states table.now.outputs table.now.next table.now.words }
 {
-    if half == 2 {
-        let house = HOUSE;
-        return Kind {
-            half: half,
-            house: are_same(2, signs, &house),
-            gpp: false,
-        };
+    let Table {
+        states,
+        outputs,
+        next,
+        words,
+    } = *table;
+    if outputs != 2 || !has_steps(states) || next.len() != 2 * states || words.len() != 2 * states {
+        return false;
     }
-    if half == 4 {
-        let gpp = GPP;
-        return Kind {
-            half: half,
-            house: false,
-            gpp: are_same(4, signs, &gpp),
-        };
-    }
-    Kind {
-        half: half,
-        house: false,
-        gpp: false,
-    }
+    let wings = Wings {
+        half: states / 2,
+        next,
+        words,
+    };
+    table.is_systematic() && wings.are_all()
 }

@@ -1,7 +1,7 @@
 -- What a program in another language gets back from a call: the reply's number, 0 where the call is done, the lists that it lent, and from the decoders the
 -- index of the first value out of range. And which numbers stand for an end.
 -- Assumes nothing.
-use Rattle.std.specs.Prelude.{List, [], ◌∷◌, ℕ, zero, suc, eqb, Float, ℤ, length}
+use Rattle.std.specs.Prelude.{Option, Some, None, List, [], ◌∷◌, ℕ, zero, suc, eqb, Float, ℤ, length}
 use Rattle.trellis.specs.declared.End.{End}
 use Rattle.trellis.specs.declared.PassFormat.{PassFormat}
 use Rattle.trellis.specs.declared.End.TheVariants.{Zero, Open, Ring}
@@ -16,8 +16,6 @@ use Rattle.decoder.specs.Decoder.{DecodeLent, DecodeResult}
 use Rattle.samples.specs.declared.Channel.{Channel}
 use Rattle.samples.specs.declared.Setting.{Setting}
 use Rattle.samples.specs.Samples.{SampleResult}
-use Rattle.capi.specs.declared.ends.Ending.{Ending}
-use Rattle.capi.specs.declared.ends.Ending.TheVariants.{Known, Unknown}
 
 pub record Returned (A : Type 0) : Type 0 where
   pub number : ℕ
@@ -55,17 +53,17 @@ abbrev pub samples_returned : SampleResult → Returned (List ℤ)
 samples_returned x = returned (number_of x.reply) x.values
 
 -- the end that a number stands for: 0 zero, 1 open, 2 ring
-unfoldable pub end_of : ℕ → Ending
-end_of zero = Known Zero
-end_of (suc zero) = Known Open
-end_of (suc (suc zero)) = Known Ring
-end_of (suc (suc (suc n))) = Unknown
+unfoldable pub end_of : ℕ → Option End
+end_of zero = Some Zero
+end_of (suc zero) = Some Open
+end_of (suc (suc zero)) = Some Ring
+end_of (suc (suc (suc n))) = None
 
 module _ {A : Type 0} where
   -- what an end comes to, and what is left where there is none
-  unfoldable pub for_ending : Ending → A → (End → A) → A
-  for_ending Unknown refused answer = refused
-  for_ending (Known end) refused answer = answer end
+  unfoldable pub for_ending : Option End → A → (End → A) → A
+  for_ending None refused answer = refused
+  for_ending (Some end) refused answer = answer end
 
   -- a call that carries one end as a number, and one that carries two: each number that stands for none refuses it, whatever else it is lent
   abbrev pub by_end : ℕ → A → (End → A) → A

@@ -4,21 +4,15 @@ ghost use Rattle.capi.specs.Returned.{end_of};
 
 use trellis::End;
 
-// What a number stands for.
-#[derive(Clone, Copy)]
-pub enum Ending {
-    Known(End),
-    Unknown,
-}
-
 // The end that a number stands for: 0 zero, 1 open, 2 ring, and any other none.
-pub fn end_of(number: u32) -> Ending
+#[tactic(auto, using(crate::proofs::Numbered::ends))]
+pub fn end_of(number: u32) -> Option<End>
     ensures { result ≡ end_of number }
 {
     match number {
-        0 => Ending::Known(End::Zero),
-        1 => Ending::Known(End::Open),
-        2 => Ending::Known(End::Ring),
-        _ => Ending::Unknown,
+        0 => Some(End::Zero),
+        1 => Some(End::Open),
+        2 => Some(End::Ring),
+        _ => None,
     }
 }

@@ -22,9 +22,9 @@ ghost use Rattle.capi.specs.Returned.{taps_returned, pattern_returned, setting_o
 
 mod ends;
 
-use ends::{Ending, end_of};
+use ends::end_of;
 use refusal::{Refusal, Reply};
-use turbo::{Channel, End, FrameFormat, PassFormat, Setting};
+use turbo::{Channel, End, Frame, FrameFormat, Pass, PassFormat, Setting};
 
 // A decoder's reply: its number, and the index beside it, which is always written.
 fn tell(reply: Reply, index: &mut u64) -> u32
@@ -63,19 +63,26 @@ pub extern "C" fn turbo_lone_decode(
         channel.now apriori.now)
         (lone_lent_of marks.old margins.old extrinsics.old work.old))) }
 {
-    let Ending::Known(by) = end_of(end) else {
-        return tell(Reply::Refused(Refusal::Shape), index);
+    let Some(by) = end_of(end) else {
+        return tell(Err(Refusal::Shape), index);
     };
     let format = PassFormat {
-        states: states,
-        outputs: outputs,
-        sections: sections,
+        states,
+        outputs,
+        sections,
         end: by,
     };
-    let reply = turbo::lone_decode(
-        format, next, words, channel, apriori, marks, margins, extrinsics, work,
-    );
-    tell(reply, index)
+    let pass = Pass {
+        format,
+        next,
+        words,
+        channel,
+        apriori,
+    };
+    tell(
+        turbo::lone_decode(&pass, marks, margins, extrinsics, work),
+        index,
+    )
 }
 
 // What a frame is, from a call's numbers and its two ends.
@@ -124,14 +131,21 @@ pub extern "C" fn turbo_encode(
         message.now pattern.now masks.now)
         sent.old)) }
 {
-    let Ending::Known(first) = end_of(end1) else {
-        return refusal::number_of_refusal(Refusal::Shape);
+    // One by one, as in turbo_decode: `let (Some(first), Some(second)) = .. else` was tried, and its default arm's goal has no name to cite for which is none.
+    let Some(first) = end_of(end1) else {
+        return Refusal::Shape.number();
     };
-    let Ending::Known(second) = end_of(end2) else {
-        return refusal::number_of_refusal(Refusal::Shape);
+    let Some(second) = end_of(end2) else {
+        return Refusal::Shape.number();
     };
-    let format = frame_format(states, outputs, first, second, bits, tail);
-    refusal::number_of(turbo::encode(format, next, words, message, pattern, masks, sent))
+    let frame = Frame {
+        format: frame_format(states, outputs, first, second, bits, tail),
+        next,
+        words,
+        pattern,
+        masks,
+    };
+    refusal::number_of(turbo::encode(&frame, message, sent))
 }
 
 // The frame decoder. It writes the three result lists after success alone, clears the working list after success, 12 and 13, and leaves all of them as they
@@ -166,16 +180,21 @@ pub extern "C" fn turbo_decode(
         pattern.now masks.now received.now iterations)
         (decode_lent_of decided.old margins.old extrinsics.old work.old))) }
 {
-    let Ending::Known(first) = end_of(end1) else {
-        return tell(Reply::Refused(Refusal::Shape), index);
+    let Some(first) = end_of(end1) else {
+        return tell(Err(Refusal::Shape), index);
     };
-    let Ending::Known(second) = end_of(end2) else {
-        return tell(Reply::Refused(Refusal::Shape), index);
+    let Some(second) = end_of(end2) else {
+        return tell(Err(Refusal::Shape), index);
     };
-    let format = frame_format(states, outputs, first, second, bits, tail);
+    let frame = Frame {
+        format: frame_format(states, outputs, first, second, bits, tail),
+        next,
+        words,
+        pattern,
+        masks,
+    };
     let reply = turbo::decode(
-        format, next, words, pattern, masks, received, iterations, decided, margins, extrinsics,
-        work,
+        &frame, received, iterations, decided, margins, extrinsics, work,
     );
     tell(reply, index)
 }
@@ -199,24 +218,24 @@ pub extern "C" fn turbo_sheet(sheet: &[u8], out: &mut [u8]) -> usize
 pub extern "C" fn turbo_hint(sheet: &[u8], line: &mut u64) -> u32
     ensures { hint result line.new ≡ hint_of sheet.now }
 {
-    let seen = hints::find(sheet);
+    let Some(seen) = hints::find(sheet) else {
+        *line = 0;
+        return 0;
+    };
     *line = seen.line as u64;
-    seen.kind
+    seen.kind as u32
 }
 
 // Eight entries to a list of eight; any other list is refused and stays as it was.
-fn write(entries: [u8; 8], list: &mut [u8]) -> u32
-    ensures { returned result list.new ≡ written entries list.old }
+#[tactic(auto, using(crate::specs::laws::Returning::written_done, crate::specs::laws::Returning::written_refused), unfolding(refusal::specs::Refusals::told, refusal::specs::Refusals::number_of))]
+fn write(entries: [u8; 8], list: &mut [u8]) -> Reply
+    ensures { returned (number_of result) list.new ≡ written entries list.old }
 {
     if list.len() != 8 {
-        return refusal::number_of_refusal(Refusal::Lists);
+        return Err(Refusal::Lists);
     }
-    let mut i = 0;
-    while i < 8 {
-        list[i] = entries[i];
-        i += 1;
-    }
-    0
+    list.copy_from_slice(&entries);
+    Ok(())
 }
 
 // The house code's next states, to a list of eight; any other is refused by 5 and stays as it was.
@@ -224,7 +243,7 @@ fn write(entries: [u8; 8], list: &mut [u8]) -> u32
 pub extern "C" fn turbo_house_next(list: &mut [u8]) -> u32
     ensures { returned result list.new ≡ written house.next list.old }
 {
-    write(turbo::house_next(), list)
+    refusal::number_of(write(turbo::house_next(), list))
 }
 
 // The house code's words, to a list of eight; any other is refused by 5 and stays as it was.
@@ -232,7 +251,7 @@ pub extern "C" fn turbo_house_next(list: &mut [u8]) -> u32
 pub extern "C" fn turbo_house_words(list: &mut [u8]) -> u32
     ensures { returned result list.new ≡ written house.words list.old }
 {
-    write(turbo::house_words(), list)
+    refusal::number_of(write(turbo::house_words(), list))
 }
 
 // The table that the taps give, to `next` and `words`; both stay as they were where it is refused.

@@ -2,12 +2,11 @@
 -- Assumes nothing.
 use mathlib.Core.List.{List, [], ◌∷◌, get_last_d}
 use Rattle.std.proofs.Math.Option.{Option, some, Option-elim, bind, or_else}
-use Rattle.std.specs.Prelude.{ℕ, ℤ, pos, negsuc, length, replicate}
+use Rattle.std.specs.Prelude.{ℕ, ℤ, pos, negsuc, length, replicate, Ok, Err}
 use Rattle.std.specs.Int.Count.{ones}
 use Rattle.lists.specs.Lists as ByIndex
 use Rattle.integers.specs.Integers
 use Rattle.refusal.specs.declared.Refusal.TheVariants.{Lists, NoPath, ForcedPosition, NoTail}
-use Rattle.refusal.specs.declared.Reply.TheVariants.{Done, Refused}
 use Rattle.refusal.specs.Refusals
 use Rattle.trellis.specs.declared.End.{End}
 use Rattle.trellis.specs.declared.End.TheVariants.{Zero}
@@ -120,7 +119,7 @@ cases =
     })
     (untouched 4 (replicate 20 (pos 77)))
     (record {
-      reply = Done;
+      reply = Ok tt;
       lists = record {
         marks = 2 ∷ 2 ∷ 2 ∷ 2 ∷ [];
         margins = negsuc 0 ∷ pos 1 ∷ pos 1 ∷ pos 10 ∷ [];
@@ -137,19 +136,19 @@ cases =
     (record { table = follower; end = Zero; sections = 2; values = record { channel = pos 3 ∷ negsuc 6 ∷ []; apriori = pos 1 ∷ pos 0 ∷ [] } })
     (untouched 2 (replicate 6 (pos 77)))
     (record {
-      reply = Done;
+      reply = Ok tt;
       lists = record { marks = 2 ∷ 0 ∷ []; margins = pos 4 ∷ pos 0 ∷ []; extrinsics = pos 0 ∷ pos 0 ∷ []; work = zeros 6 };
     })
     -- P4
     ∷ lone_pass
     (record { table = follower; end = Zero; sections = 1; values = record { channel = pos 3 ∷ []; apriori = pos 1 ∷ [] } })
     (untouched 1 (replicate 4 (pos 77)))
-    (record { reply = Done; lists = record { marks = 0 ∷ []; margins = pos 0 ∷ []; extrinsics = pos 0 ∷ []; work = zeros 4 } })
+    (record { reply = Ok tt; lists = record { marks = 0 ∷ []; margins = pos 0 ∷ []; extrinsics = pos 0 ∷ []; work = zeros 4 } })
     -- P5
     ∷ lone_pass
     (record { table = trap; end = Zero; sections = 2; values = record { channel = pos 3 ∷ negsuc 6 ∷ []; apriori = pos 1 ∷ pos 0 ∷ [] } })
     (untouched 2 (replicate 6 (pos 77)))
-    (record { reply = Refused NoPath; lists = untouched 2 (zeros 6) })
+    (record { reply = Err NoPath; lists = untouched 2 (zeros 6) })
     -- P6
     ∷ interleaved
     (0 ∷ 3 ∷ 6 ∷ 1 ∷ 4 ∷ 8 ∷ 2 ∷ 5 ∷ 7 ∷ [])
@@ -161,15 +160,15 @@ cases =
     ∷ coded
     (record { frame = plain_frame 1 0 (0 ∷ []) (7 ∷ []); message = 1 ∷ [] })
     (replicate 3 77)
-    (record { reply = Refused NoTail; sent = replicate 3 77 })
+    (record { reply = Err NoTail; sent = replicate 3 77 })
     ∷ decoded
     (record { frame = plain_frame 1 0 (0 ∷ []) (7 ∷ []); received = zeros 3; iterations = 1 })
     (lent_to 1 (replicate 8 (pos 77)))
-    (record { reply = Refused ForcedPosition; lists = lent_to 1 (zeros 8) })
+    (record { reply = Err ForcedPosition; lists = lent_to 1 (zeros 8) })
     -- P9
     ∷ frame_size (plain_frame 3 2 (0 ∷ 1 ∷ 2 ∷ []) (6 ∷ 5 ∷ [])) 14
     ∷ decoded
     (record { frame = plain_frame 3 2 (0 ∷ 1 ∷ 2 ∷ []) (6 ∷ 5 ∷ []); received = zeros 13; iterations = 1 })
     (lent_to 3 (replicate 24 (pos 77)))
-    (record { reply = Refused Lists; lists = lent_to 3 (replicate 24 (pos 77)) })
+    (record { reply = Err Lists; lists = lent_to 3 (replicate 24 (pos 77)) })
     ∷ []

@@ -3,14 +3,13 @@ ghost use Rattle.std.specs.Prelude.{not, ◌&&◌, ◌||◌, [], ◌∷◌, ◌�
 ghost use Rattle.lists.specs.Lists.{every};
 ghost use Rattle.refusal.specs.declared.Refusal.TheVariants.{Bit, Pattern, Mask, Coder};
 ghost use Rattle.refusal.specs.Refusals.{◌unless◌, first_of};
-ghost use Rattle.trellis.specs.Table.{table_of};
 ghost use Rattle.frame.specs.Frame.{tail_of, good_sizes, good_masks, good_coder, length_under};
 ghost use Rattle.frame.specs.Interleaver.{permutes};
-ghost use Rattle.coder.specs.Coder.{encode_lent_checks};
-ghost use Rattle.coder.specs.Lent.{encode_call_of};
+ghost use Rattle.coder.specs.Coder.{EncodeCall, encode_lent_checks};
 
-use frame::FrameFormat;
-use refusal::{Refusal, Reply};
+use frame::{Frame, FrameFormat};
+use refusal::{Refusal, Reply, check};
+use trellis::Table;
 
 // The coder's lists, by their lengths: pattern and message have K entries, and the frame its own length.
 fn encode_lists_fit(
@@ -28,69 +27,43 @@ fn encode_lists_fit(
         (length_under masks.now format.bits
         (tail_of format.first format.tail + tail_of format.second format.tail))))) }
 {
-    let bits = format.bits;
-    if pattern != bits {
-        return false;
-    }
-    if message != bits {
-        return false;
-    }
-    frame::frame_fits(format, masks, sent)
+    pattern == format.bits && message == format.bits && frame::frame_fits(format, masks, sent)
 }
 
 // What the lists hold: 7, 8, 9, 11.
-fn entries_reply(
-    states: usize,
-    outputs: usize,
-    next: &[u8],
-    words: &[u8],
-    message: &[u8],
-    pattern: &[u32],
-    masks: &[u8],
-) -> Reply
+fn entries_reply(table: &Table, message: &[u8], pattern: &[u32], masks: &[u8]) -> Reply
     ensures { result ≡ first_of
         (Bit unless every (λ b. ltb b 2) message.now
         ∷ Pattern unless (leb (length pattern.now) 4096
         && permutes (length pattern.now) pattern.now)
         ∷ Mask unless good_masks masks.now
-        ∷ Coder unless good_coder (table_of states outputs next.now words.now)
+        ∷ Coder unless good_coder table.now
         ∷ []) }
 {
-    let message_reply = refusal::check(trellis::all_below(message, 2), Refusal::Bit);
-    let pattern_reply = refusal::check(frame::permutes(pattern), Refusal::Pattern);
-    let masks_reply = refusal::check(frame::masks_fit(masks), Refusal::Mask);
-    let table_reply = refusal::check(frame::codes(states, outputs, next, words), Refusal::Coder);
-    let frame_reply = refusal::first_of(masks_reply, table_reply);
-    refusal::first_of(message_reply, refusal::first_of(pattern_reply, frame_reply))
+    let bits_fit = trellis::all_below(message, 2);
+    let pattern_fits = frame::permutes(pattern);
+    check(bits_fit, Refusal::Bit)?;
+    check(pattern_fits, Refusal::Pattern)?;
+    check(frame::masks_fit(masks), Refusal::Mask)?;
+    check(frame::codes(table), Refusal::Coder)
 }
 
 // The reply to a call of the coder, but for 14, from what is lent alone.
-pub fn encode_reply(
-    format: FrameFormat,
-    next: &[u8],
-    words: &[u8],
-    message: &[u8],
-    pattern: &[u32],
-    masks: &[u8],
-    sent: &[u8],
-) -> Reply
+pub fn encode_reply(frame: &Frame, message: &[u8], sent: &[u8]) -> Reply
     ensures { result ≡ first_of
-        (encode_lent_checks
-        (encode_call_of format next.now words.now
-        message.now pattern.now masks.now)
-        sent.now) }
+        (encode_lent_checks (record { frame = frame.now; message = message.now }) sent.now) }
 {
-    let states = format.states;
-    let outputs = format.outputs;
-    let table = trellis::table_reply(states, outputs, next, words);
-    if let Reply::Refused(_) = table {
-        return table;
-    }
-    if !frame::sizes_fit(format.bits, format.tail) {
-        return Reply::Refused(Refusal::Length);
-    }
-    if !encode_lists_fit(format, masks, pattern.len(), message.len(), sent.len()) {
-        return Reply::Refused(Refusal::Lists);
-    }
-    entries_reply(states, outputs, next, words, message, pattern, masks)
+    let format = frame.format;
+    let table = frame.table();
+    table.reply()?;
+    check(frame::sizes_fit(format.bits, format.tail), Refusal::Length)?;
+    let lists_fit = encode_lists_fit(
+        format,
+        frame.masks,
+        frame.pattern.len(),
+        message.len(),
+        sent.len(),
+    );
+    check(lists_fit, Refusal::Lists)?;
+    entries_reply(&table, message, frame.pattern, frame.masks)
 }

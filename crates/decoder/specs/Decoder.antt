@@ -3,8 +3,7 @@
 use Rattle.std.specs.Prelude.{Bool, not, ◌&&◌, ◌||◌, List, [], ◌∷◌, ◌++◌, map, ℕ, zero, suc, ◌+◌, ◌*◌, ◌-◌, eqb, ℤ, pos, length, get_or, take, drop, replicate}
 use Rattle.lists.specs.Lists.{joined, any, upto}
 use Rattle.refusal.specs.declared.Refusal.TheVariants.{Length, Lists, Pattern, Mask, Iterations, Coder, NoPath, ForcedPosition}
-use Rattle.refusal.specs.declared.Reply.{Reply}
-use Rattle.refusal.specs.Refusals.{Check, ◌unless◌, first_of, after, cleared}
+use Rattle.refusal.specs.Refusals.{Reply, Check, ◌unless◌, first_of, after, cleared}
 use Rattle.trellis.specs.declared.End.{End}
 use Rattle.trellis.specs.Table.{table_checks}
 use Rattle.trellis.specs.Path.{Values}

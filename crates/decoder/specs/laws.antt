@@ -8,3 +8,5 @@ pub mod Running
 pub mod Marks
 pub mod Finishing
 pub mod Settled
+pub mod Format
+pub mod Ready

@@ -11,12 +11,7 @@ pub fn hand_on(pattern: &[u32], xs: &[i32], out: &mut [i16])
     requires out_len { length out.old ≡ length pattern.now }
     ensures { out.new ≡ interleave (pos 0) pattern.now (map hand_over xs.now) }
 {
-    let mut i: usize = 0;
-    while i < pattern.len() {
-        let from = pattern[i] as usize;
-        out[i] = soft::handed(xs[from]);
-        i += 1;
-    }
+    frame::interleave(pattern, xs, out, soft::handed);
 }
 
 // From pass 2 back to pass 1: out[pattern[i]] is what xs[i] hands over.
@@ -26,10 +21,5 @@ pub fn hand_back(pattern: &[u32], xs: &[i32], out: &mut [i16])
     requires out_len { length out.old ≡ length pattern.now }
     ensures { out.new ≡ deinterleave (pos 0) pattern.now (map hand_over xs.now) }
 {
-    let mut i: usize = 0;
-    while i < pattern.len() {
-        let to = pattern[i] as usize;
-        out[to] = soft::handed(xs[i]);
-        i += 1;
-    }
+    frame::deinterleave(pattern, xs, out, soft::handed);
 }

@@ -1,13 +1,12 @@
 -- What a sheet is answered with (document 01, "Sheet"; document 02, request 2), the statement: what is printed for it, byte by byte. It is refused by the
 -- first of its rules that is broken, with its line; otherwise what is printed, line by line, are the bit, margin and extrinsic of a decoding of its frame.
 -- Assumes nothing.
-use Rattle.std.specs.Prelude.{◌≡◌, true, false, not, ◌⊎◌, ◌≢◌, List, [], ◌∷◌, ◌++◌, ℕ, suc, ◌+◌, ◌<◌, eqb, length, get_or}
+use Rattle.std.specs.Prelude.{◌≡◌, true, false, not, ◌⊎◌, ◌≢◌, List, [], ◌∷◌, ◌++◌, ℕ, suc, ◌+◌, ◌<◌, eqb, length, get_or, Ok}
 use Rattle.lists.specs.Lists.{joined, count, is_empty, found}
 use Rattle.text.specs.Text.{bytes, line_feed}
 use Rattle.text.specs.Decimal.{digits}
 use Rattle.refusal.specs.declared.Refusal.{Refusal}
 use Rattle.refusal.specs.declared.Refusal.TheVariants.{Text, ValueInLine, Pattern}
-use Rattle.refusal.specs.declared.Reply.TheVariants.{Done}
 use Rattle.refusal.specs.Refusals.{told, Check, ◌unless◌}
 use Rattle.refusal.specs.Replied.{all_hold, IsFirstToFail}
 use Rattle.trellis.specs.Limits.{channel_fits}
@@ -67,7 +66,7 @@ pub record IsResult (sheet text : List ℕ) : Type 0 where
   pub faultless : IsFaultless sheet
   pub result : DecodeResult
   pub decoding : IsDecoding (sheet_call_of sheet) (lent_for sheet) result
-  pub done : result.reply ≡ Done
+  pub done : result.reply ≡ Ok tt
   pub whole : text ≡ bytes "at bit margin extrinsic\n" ++ joined (result_line result.lists) (message_bits sheet)
   pub line_feeds : count (λ b. eqb b line_feed) text ≡ message_bits sheet + 1
 

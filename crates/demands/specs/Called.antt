@@ -1,10 +1,8 @@
 -- Demand 1, the statement: what every call of every entry is answered by, and what it leaves of the lists that were lent (document 01, "Refused frames and
 -- calls").
 -- Assumes nothing.
-use Rattle.std.specs.Prelude.{◌≡◌, ◌⊎◌, List, [], ◌∷◌, map, ℕ, Float, ℤ, pos, length, replicate}
-use Rattle.refusal.specs.declared.Reply.{Reply}
-use Rattle.refusal.specs.declared.Reply.TheVariants.{Done}
-use Rattle.refusal.specs.Refusals.{told, number_of, Check}
+use Rattle.std.specs.Prelude.{◌≡◌, ◌⊎◌, List, [], ◌∷◌, map, ℕ, Float, ℤ, pos, length, replicate, Ok}
+use Rattle.refusal.specs.Refusals.{Reply, told, number_of, Check}
 use Rattle.refusal.specs.Replied.{IsReply}
 use Rattle.taps.specs.Build.{TapsCall, TapsLent, taps_checks, taps_built}
 use Rattle.polynomial.specs.Polynomial.{PatternCall, pattern_checks, pattern_built}
@@ -48,7 +46,7 @@ numbers_of cs = map (λ c. (told c.refusal).number) cs
 
 -- the replies after which the working list is all zeros
 abbrev pub Clears : Reply → Type 0
-Clears r = (r ≡ Done) ⊎ ((number_of r ≡ 12) ⊎ (number_of r ≡ 13))
+Clears r = (r ≡ Ok tt) ⊎ ((number_of r ≡ 12) ⊎ (number_of r ≡ 13))
 
 -- a call of an entry with these numbers and these checks. The reply is the refusal of the first check that fails, and done exactly where none does. A
 -- refusal leaves the result lists, here taken together, as they were lent. The working list is all zeros after done, 12 and 13, and as it was after any
@@ -56,7 +54,7 @@ Clears r = (r ≡ Done) ⊎ ((number_of r ≡ 12) ⊎ (number_of r ≡ 13))
 pub record IsCall {A : Type 0} (numbers : List ℕ) (cs : List Check) (reply : Reply) (lent left : A) (work work' : List ℤ) : Type 0 where
   pub numbered : numbers_of cs ≡ numbers
   pub replied : IsReply cs reply
-  pub kept : (reply ≡ Done → ⊥) → left ≡ lent
+  pub kept : (reply ≡ Ok tt → ⊥) → left ≡ lent
   pub zeros : Clears reply → work' ≡ replicate (length work) (pos 0)
   pub work_kept : (Clears reply → ⊥) → work' ≡ work
 

@@ -2,8 +2,7 @@
 -- Assumes nothing.
 use Rattle.std.specs.Prelude.{◌≡◌, true, false, List, [], ◌∷◌, ℕ, Float, ℤ, length}
 use Rattle.refusal.specs.declared.Refusal.TheVariants.{Shape}
-use Rattle.refusal.specs.declared.Reply.{Reply}
-use Rattle.refusal.specs.Refusals.{number_of, place_of, Check, ◌unless◌}
+use Rattle.refusal.specs.Refusals.{Reply, number_of, place_of, Check, ◌unless◌}
 use Rattle.trellis.specs.declared.End.{End}
 use Rattle.trellis.specs.declared.End.TheVariants.{Zero}
 use Rattle.taps.specs.Build.{TapsCall, TapsLent, taps_checks, taps_built}

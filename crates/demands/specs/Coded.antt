@@ -1,8 +1,7 @@
 -- Demand 2 for the coder, the statement: what a whole call is, over the paths of each coder's end; and what it writes, a frame for a message.
 -- Assumes nothing.
-use Rattle.std.specs.Prelude.{◌≡◌, ◌↔◌, false, cond, List, ◌++◌, ℕ, ◌<◌, length, get_or}
+use Rattle.std.specs.Prelude.{◌≡◌, ◌↔◌, false, cond, List, ◌++◌, ℕ, ◌<◌, length, get_or, Ok, Err}
 use Rattle.refusal.specs.declared.Refusal.TheVariants.{NoTail}
-use Rattle.refusal.specs.declared.Reply.TheVariants.{Done, Refused}
 use Rattle.trellis.specs.declared.End.{End}
 use Rattle.trellis.specs.Path.{TrellisPath}
 use Rattle.trellis.specs.Best.{IsBits, IsPath}
@@ -47,7 +46,7 @@ BothOwnPaths c =
 -- what a call with no refusal but 14 comes to: 14 is given exactly where not each coder has a path of its end with its own inputs, and otherwise the
 -- list holds a frame for the message
 pub record IsCoding (c : EncodeCall) (lent : List ℕ) (result : EncodeResult) : Type 0 where
-  pub no_tail_lem : (result.reply ≡ Refused NoTail) ↔ (BothOwnPaths c → ⊥)
-  pub done : (result.reply ≡ Done) ↔ BothOwnPaths c
-  pub written : result.reply ≡ Done → IsFrame c.frame c.message result.sent
-  pub kept : (result.reply ≡ Done → ⊥) → result.sent ≡ lent
+  pub no_tail_lem : (result.reply ≡ Err NoTail) ↔ (BothOwnPaths c → ⊥)
+  pub done : (result.reply ≡ Ok tt) ↔ BothOwnPaths c
+  pub written : result.reply ≡ Ok tt → IsFrame c.frame c.message result.sent
+  pub kept : (result.reply ≡ Ok tt → ⊥) → result.sent ≡ lent

@@ -1,10 +1,9 @@
 -- Demand 3 for the frame decoder, the statement: what a whole decoding is, from the values lent to the lists written (document 01, "Frame").
 -- Every outcome is said over the paths of the pass's own end; no recursion over states and no listing of paths is named here.
 -- Assumes nothing.
-use Rattle.std.specs.Prelude.{◌≡◌, ◌↔◌, ◌⊎◌, List, ℕ, suc, ◌-◌, ◌≤◌, ◌<◌, ℤ, pos, length, get_or, replicate}
+use Rattle.std.specs.Prelude.{◌≡◌, ◌↔◌, ◌⊎◌, List, ℕ, suc, ◌-◌, ◌≤◌, ◌<◌, ℤ, pos, length, get_or, replicate, Ok, Err}
 use Rattle.std.proofs.Math.Option.{Option, some, Option-elim}
 use Rattle.refusal.specs.declared.Refusal.TheVariants.{NoPath, ForcedPosition}
-use Rattle.refusal.specs.declared.Reply.TheVariants.{Done, Refused}
 use Rattle.trellis.specs.declared.End.{End}
 use Rattle.trellis.specs.declared.Outcome.{Outcome}
 use Rattle.trellis.specs.declared.Outcome.TheVariants.{Free}
@@ -98,9 +97,9 @@ pub record IsDecoding (c : DecodeCall) (lent : DecodeLent) (result : DecodeResul
   pub first : ℕ → Pass
   pub second : ℕ → Pass
   pub iterations : AreIterations c.frame (spread (pos 0) (flags c.frame) c.received) c.iterations first second
-  pub no_path : (result.reply ≡ Refused NoPath) ↔ (BothPaths c.frame → ⊥)
-  pub forced : (result.reply ≡ Refused ForcedPosition) ↔ (BothPaths c.frame × EitherEmpty c.frame)
-  pub done : (result.reply ≡ Done) ↔ (BothPaths c.frame × (EitherEmpty c.frame → ⊥))
-  pub written : result.reply ≡ Done → FrameListsWritten c.frame (second (c.iterations - 1)) result.lists
-  pub kept : (result.reply ≡ Done → ⊥) → FrameListsKept lent result.lists
+  pub no_path : (result.reply ≡ Err NoPath) ↔ (BothPaths c.frame → ⊥)
+  pub forced : (result.reply ≡ Err ForcedPosition) ↔ (BothPaths c.frame × EitherEmpty c.frame)
+  pub done : (result.reply ≡ Ok tt) ↔ (BothPaths c.frame × (EitherEmpty c.frame → ⊥))
+  pub written : result.reply ≡ Ok tt → FrameListsWritten c.frame (second (c.iterations - 1)) result.lists
+  pub kept : (result.reply ≡ Ok tt → ⊥) → FrameListsKept lent result.lists
   pub cleared : result.lists.work ≡ replicate (length lent.work) (pos 0)

@@ -1,10 +1,9 @@
 -- Demand 3 for the lone decoder, the statement: what a whole call is, from the values lent to the lists written (document 01, "Table, path and
 -- metric"). Every outcome is said over the paths of the call's end; no recursion over states and no listing of paths is named here.
 -- Assumes nothing.
-use Rattle.std.specs.Prelude.{◌≡◌, ◌↔◌, ℕ, ◌<◌, pos, length, get_or, replicate}
+use Rattle.std.specs.Prelude.{◌≡◌, ◌↔◌, ℕ, ◌<◌, pos, length, get_or, replicate, Ok, Err}
 use Rattle.std.proofs.Math.Option.{some}
 use Rattle.refusal.specs.declared.Refusal.TheVariants.{NoPath}
-use Rattle.refusal.specs.declared.Reply.TheVariants.{Done, Refused}
 use Rattle.trellis.specs.declared.Outcome.{Outcome}
 use Rattle.trellis.specs.Outcome.{mark, margin, intrinsic, extrinsic}
 use Rattle.siso.specs.Decode.{Call, Lent, Result}
@@ -33,8 +32,8 @@ pub record LoneListsKept (lent left : Lent) : Type 0 where
 
 -- what a call with no refusal but 12 comes to: 12 is given exactly where there is no path
 pub record IsLonePass (c : Call) (lent : Lent) (result : Result) : Type 0 where
-  pub no_path : (result.reply ≡ Refused NoPath) ↔ (SomePath c.table c.end c.sections → ⊥)
-  pub done : (result.reply ≡ Done) ↔ SomePath c.table c.end c.sections
-  pub written : result.reply ≡ Done → LoneListsWritten c result.lists
-  pub kept : (result.reply ≡ Done → ⊥) → LoneListsKept lent result.lists
+  pub no_path : (result.reply ≡ Err NoPath) ↔ (SomePath c.table c.end c.sections → ⊥)
+  pub done : (result.reply ≡ Ok tt) ↔ SomePath c.table c.end c.sections
+  pub written : result.reply ≡ Ok tt → LoneListsWritten c result.lists
+  pub kept : (result.reply ≡ Ok tt → ⊥) → LoneListsKept lent result.lists
   pub cleared : result.lists.work ≡ replicate (length lent.work) (pos 0)

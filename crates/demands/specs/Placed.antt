@@ -1,11 +1,9 @@
 -- Where the bad value sits (document 02, request 2), the statement: when 6 and 16 are given, and which value of the lists lent to a call the index beside
 -- them is that of.
 -- Assumes nothing.
-use Rattle.std.specs.Prelude.{◌≡◌, ◌↔◌, true, List, [], ◌∷◌, map, ℕ, ℤ}
+use Rattle.std.specs.Prelude.{◌≡◌, ◌↔◌, true, List, [], ◌∷◌, map, ℕ, ℤ, Err}
 use Rattle.refusal.specs.declared.Refusal.TheVariants.{Value, Apriori}
-use Rattle.refusal.specs.declared.Reply.{Reply}
-use Rattle.refusal.specs.declared.Reply.TheVariants.{Refused}
-use Rattle.refusal.specs.Refusals.{told, Check}
+use Rattle.refusal.specs.Refusals.{Reply, told, Check}
 use Rattle.refusal.specs.Replied.{all_hold}
 use Rattle.trellis.specs.Limits.{channel_limit, apriori_limit, channel_fits, IsFirstOutside}
 
@@ -13,6 +11,6 @@ use Rattle.trellis.specs.Limits.{channel_limit, apriori_limit, channel_fits, IsF
 -- value in its list. 16 stands after 6, and is the same of the a-priori values
 pub record IsPlaced (before : List Check) (channel apriori : List ℤ) (r : Reply) : Type 0 where
   pub numbered : map (λ c. (told c.refusal).number) before ≡ 2 ∷ 3 ∷ 4 ∷ 5 ∷ []
-  pub value : (i : ℕ) → (r ≡ Refused (Value i)) ↔ ((all_hold before ≡ true) × IsFirstOutside channel_limit channel i)
+  pub value : (i : ℕ) → (r ≡ Err (Value i)) ↔ ((all_hold before ≡ true) × IsFirstOutside channel_limit channel i)
   pub apriori_value : (i : ℕ) →
-      (r ≡ Refused (Apriori i)) ↔ ((all_hold before ≡ true) × ((channel_fits channel ≡ true) × IsFirstOutside apriori_limit apriori i))
+      (r ≡ Err (Apriori i)) ↔ ((all_hold before ≡ true) × ((channel_fits channel ≡ true) × IsFirstOutside apriori_limit apriori i))

@@ -1,12 +1,11 @@
 -- Channel values from a radio's samples (document 02, request 5), the statement: what is written for each sample, said over the numbers that floats stand for,
 -- with no bits named; that the opposite samples give the opposite values; and that no list so written is refused by 6.
 -- Assumes nothing.
-use Rattle.std.specs.Prelude.{◌≡◌, ◌≢◌, true, List, map, ℕ, ◌*◌, ◌%◌, ◌≤◌, ◌<◌, Float, ℤ, pos, neg_ℤ, ◌-ℤ◌, ◌*ℤ◌, nat_abs, length, get_or}
+use Rattle.std.specs.Prelude.{◌≡◌, ◌≢◌, true, List, map, ℕ, ◌*◌, ◌%◌, ◌≤◌, ◌<◌, Float, ℤ, pos, neg_ℤ, ◌-ℤ◌, ◌*ℤ◌, nat_abs, length, get_or, Ok}
 use Rattle.std.proofs.Math.Option.{Option, none, some}
 use Rattle.std.specs.Float.{nan, inf, fin}
 use Rattle.std.specs.Float.Ieee.{up, down, neg}
 use Rattle.integers.specs.Integers.{limited}
-use Rattle.refusal.specs.declared.Reply.TheVariants.{Done}
 use Rattle.trellis.specs.Limits.{channel_limit, channel_fits}
 use Rattle.samples.specs.declared.Setting.{Setting}
 use Rattle.samples.specs.Samples.{zero, product, with_sign, sample_values}
@@ -56,11 +55,11 @@ pub record AreValues (s : Setting) (samples : List Float) (values : List ℤ) : 
 pub record EverySampleCall : Type 0 where
   pub written : (s : Setting) (samples : List Float) (lent : List ℤ) →
       let x = sample_values s samples lent in
-      x.reply ≡ Done → AreValues s samples x.values
+      x.reply ≡ Ok tt → AreValues s samples x.values
   pub opposite : (s : Setting) (samples : List Float) (lent : List ℤ) →
       let x = sample_values s samples lent in
       let y = sample_values s (map neg samples) lent in
-      (y.reply ≡ x.reply) × (x.reply ≡ Done → y.values ≡ map neg_ℤ x.values)
+      (y.reply ≡ x.reply) × (x.reply ≡ Ok tt → y.values ≡ map neg_ℤ x.values)
   pub in_limits : (s : Setting) (samples : List Float) (lent : List ℤ) →
       let x = sample_values s samples lent in
-      x.reply ≡ Done → channel_fits x.values ≡ true
+      x.reply ≡ Ok tt → channel_fits x.values ≡ true

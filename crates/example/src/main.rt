@@ -3,7 +3,7 @@
 
 use refusal::Reply;
 use std::io;
-use turbo::{End, FrameFormat, PassFormat};
+use turbo::{End, Frame, FrameFormat, Pass, PassFormat};
 
 // The house code, one message bit, both coders ending at zero with two tail sections.
 fn one_bit() -> FrameFormat {
@@ -19,9 +19,14 @@ fn one_bit() -> FrameFormat {
 
 // The message 1, everything sent: 1 1 1, then 1 0 1 1 for each tail.
 fn send_one(sent: &mut [u8]) -> Reply {
-    let next = turbo::house_next();
-    let words = turbo::house_words();
-    turbo::encode(one_bit(), &next, &words, &[1], &[0], &[7], sent)
+    let frame = Frame {
+        format: one_bit(),
+        next: &turbo::house_next(),
+        words: &turbo::house_words(),
+        pattern: &[0],
+        masks: &[7],
+    };
+    turbo::encode(&frame, &[1], sent)
 }
 
 // A frame with parity 2 unsent, after eight iterations: bit 1, margin 9, extrinsic 1.
@@ -31,22 +36,15 @@ fn read_one(
     extrinsics: &mut [i32],
     work: &mut [i32],
 ) -> Reply {
-    let next = turbo::house_next();
-    let words = turbo::house_words();
+    let frame = Frame {
+        format: one_bit(),
+        next: &turbo::house_next(),
+        words: &turbo::house_words(),
+        pattern: &[0],
+        masks: &[6],
+    };
     let received = [-3, 5, 2, -4, 1, 7, -6, 1, 4, 3];
-    turbo::decode(
-        one_bit(),
-        &next,
-        &words,
-        &[0],
-        &[6],
-        &received,
-        8,
-        bits,
-        margins,
-        extrinsics,
-        work,
-    )
+    turbo::decode(&frame, &received, 8, bits, margins, extrinsics, work)
 }
 
 // One pass from state 0 back to state 0: all four positions free, margins -1, 1, 1 and 10, extrinsics -5, 3, 0 and 7.
@@ -56,18 +54,20 @@ fn pass_four(
     extrinsics: &mut [i32],
     work: &mut [i32],
 ) -> Reply {
-    let next = turbo::house_next();
-    let words = turbo::house_words();
     let format = PassFormat {
         states: 4,
         outputs: 2,
         sections: 4,
         end: End::Zero,
     };
-    let channel = [4, -1, -2, 2, 1, -5, 3, 6];
-    turbo::lone_decode(
-        format, &next, &words, &channel, &[0; 4], marks, margins, extrinsics, work,
-    )
+    let pass = Pass {
+        format,
+        next: &turbo::house_next(),
+        words: &turbo::house_words(),
+        channel: &[4, -1, -2, 2, 1, -5, 3, 6],
+        apriori: &[0; 4],
+    };
+    turbo::lone_decode(&pass, marks, margins, extrinsics, work)
 }
 
 // A reply's number, 0 where the call is done, and an entry of what came of it.

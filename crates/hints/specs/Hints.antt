@@ -3,7 +3,11 @@
 use Rattle.std.specs.Prelude.{Bool, cond, ◌&&◌, ◌||◌, List, [], ◌∷◌, ℕ, suc, ◌-◌, eqb, ltb, length, get_or, take}
 use Rattle.lists.specs.Lists.{count, is_empty}
 use Rattle.text.specs.Text.{line_feed, space, cut, same}
-use Rattle.hints.specs.declared.Hint.{Hint}
+
+-- what is seen, by its number, and its line
+pub record Hint : Type 0 where
+  pub kind : ℕ
+  pub line : ℕ
 
 abbrev pub hint : ℕ → ℕ → Hint
 hint kind line = record { kind = kind; line = line }

@@ -1,3 +1,4 @@
+pub mod Chains
 pub mod Keep
 pub mod Lowest
 pub mod Tests

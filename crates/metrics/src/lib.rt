@@ -16,9 +16,5 @@ pub use words::{NOTHING, larger, reached};
 pub fn clear(work: &mut [i32])
     ensures { work.new ≡ replicate (length work.old) (pos 0) }
 {
-    let mut i: usize = 0;
-    while i < work.len() {
-        work[i] = 0;
-        i += 1;
-    }
+    work.fill(0);
 }

@@ -10,45 +10,37 @@ use crate::words::reached;
 pub fn is_free(zero: i32, one: i32) -> bool
     ensures { result ≡ (found (held zero) && found (held one)) }
 {
-    if reached(zero) { reached(one) } else { false }
+    reached(zero) && reached(one)
 }
 
 // A position's mark: 2 for a free one, else the bit whose best metric is there.
 pub fn mark_of(free: bool, one: i32) -> u8
     ensures { result ≡ cond free 2 (cond (found (held one)) 1 0) }
 {
-    if free {
-        return 2;
-    }
-    if reached(one) { 1 } else { 0 }
+    if free { 2 } else { u8::from(reached(one)) }
 }
 
 // Whether a word is one that a best metric may have.
 fn is_best(x: i32) -> bool
     ensures { result ≡ inside best_limit x }
 {
-    if x < -100000000 {
-        return false;
-    }
-    x <= 100000000
+    (-100000000..=100000000).contains(&x)
 }
 
 // Half the difference of two best metrics, a free position's margin; 0 where a word is none that a best metric may have.
 pub fn half_difference(zero: i32, one: i32) -> i32
     ensures { result ≡ cond (inside best_limit zero && inside best_limit one) (half (one -ℤ zero)) (pos 0) }
 {
-    if !is_best(zero) {
-        return 0;
+    if is_best(zero) && is_best(one) {
+        (one - zero) / 2
+    } else {
+        0
     }
-    if !is_best(one) {
-        return 0;
-    }
-    (one - zero) / 2
 }
 
 // The a-priori value and the systematic value of a section, in one: the intrinsic part of its margin, over a systematic table.
 pub fn own_of(a: i16, y: i16) -> i32
     ensures { result ≡ a +ℤ y }
 {
-    a as i32 + y as i32
+    i32::from(a) + i32::from(y)
 }

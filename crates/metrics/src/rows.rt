@@ -1,6 +1,5 @@
 // The metrics of all states before the first section and after the last, by where a path starts, and whether paths arrive.
-ghost use Rattle.std.specs.Prelude.{◌||◌, cond, ◌≡◌, ℕ, min, ◌<◌, pos};
-ghost use Rattle.std.proofs.Math.Option.{some};
+ghost use Rattle.std.specs.Prelude.{◌||◌, ◌≡◌, ℕ, min, ◌<◌};
 ghost use Rattle.lists.specs.Lists.{found};
 ghost use Rattle.trellis.specs.laws.MaxPlus.{plus as sum};
 ghost use Rattle.trellis.specs.laws.Over.{over};
@@ -26,22 +25,15 @@ fn boundary(start: usize) -> [i32; 16]
 pub fn beginning(start: usize) -> [i32; 16]
     ensures { (s : ℕ) → s < 16 → row result s ≡ boundary_row start s }
 {
-    if start == 0 {
-        boundary(0)
-    } else {
-        boundary(start)
+    match start {
+        0 => boundary(0),
+        _ => boundary(start),
     }
-}
-
-// The metrics of the states where paths may finish: all states have 0, or one.
-fn finishing(anywhere: bool, state: usize) -> [i32; 16]
-    ensures { (s : ℕ) → s < 16 → row result s ≡ cond anywhere (some (pos 0)) (boundary_row state s) }
-{
-    if anywhere { [0; 16] } else { boundary(state) }
 }
 
 // The metrics after the last section of paths that start in a state: the states where the end lets them finish have 0. From a state that the end lets
 // no path start in, none has.
+#[tactic(auto, using(crate::proofs::Ends::endings))]
 pub fn ending(end: End, start: usize) -> [i32; 16]
     ensures { (s : ℕ) → s < 16 → row result s ≡ ending_row end start s }
 {
@@ -49,50 +41,33 @@ pub fn ending(end: End, start: usize) -> [i32; 16]
         return [NOTHING; 16];
     }
     match end {
-        End::Zero => finishing(false, 0),
-        End::Open => finishing(true, 0),
-        End::Ring => finishing(false, start),
+        End::Zero => boundary(0),
+        End::Open => [0; 16],
+        End::Ring => boundary(start),
     }
 }
 
 // How many of the states a path may start in, from state 0 on.
+#[tactic(auto, unfolding(trellis::specs::laws::Sweeps::starts))]
 pub fn starts(end: End, states: usize) -> usize
     ensures { result ≡ starts_of states end }
 {
     match end {
-        End::Zero => 1,
-        End::Open => 1,
+        End::Zero | End::Open => 1,
         End::Ring => states,
     }
 }
 
-// Whether one of two holds, worked out without a branch.
+// Whether one of two holds. It stays though it only spells `|`: it is public.
 pub fn either(a: bool, b: bool) -> bool
     ensures { result ≡ (a || b) }
 {
-    if a { true } else { b }
-}
-
-// The states of a row, of which sixteen count.
-fn at_most_sixteen(states: usize) -> usize
-    ensures { result ≡ min states 16 }
-{
-    if states < 16 { states } else { 16 }
+    a | b
 }
 
 // Whether two rows have a metric of one state.
 pub fn arrived(m: [i32; 16], last: [i32; 16], states: usize) -> bool
     ensures { result ≡ found (over (min states 16) (λ s. sum (row m s) (row last s))) }
 {
-    let count = at_most_sixteen(states);
-    let mut any = false;
-    let mut s: usize = 0;
-    while s < count {
-        let x = m[s];
-        let y = last[s];
-        let here = both_reached(x, y);
-        any = either(any, here);
-        s += 1;
-    }
-    any
+    (0..states.min(16)).any(|s| both_reached(m[s], last[s]))
 }

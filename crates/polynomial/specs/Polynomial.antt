@@ -3,8 +3,7 @@
 use Rattle.std.specs.Prelude.{Bool, ◌&&◌, List, [], ◌∷◌, ◌++◌, ℕ, ◌+◌, ◌*◌, ◌%◌, ◌^◌, eqb, ltb, length}
 use Rattle.lists.specs.Lists.{listed}
 use Rattle.refusal.specs.declared.Refusal.TheVariants.{Polynomial, Length, Lists, Pattern}
-use Rattle.refusal.specs.declared.Reply.{Reply}
-use Rattle.refusal.specs.Refusals.{Check, ◌unless◌, first_of, after}
+use Rattle.refusal.specs.Refusals.{Reply, Check, ◌unless◌, first_of, after}
 use Rattle.frame.specs.Frame.{good_sizes}
 use Rattle.frame.specs.Interleaver.{permutes}
 

@@ -1,11 +1,11 @@
 -- The answer to as much of a sheet as the room holds is the answer to the sheet: one that does not fit is too long, and so is what fits of it.
 -- Assumes nothing.
-use Rattle.std.specs.Prelude.{◌==◌, ◌≡◌, refl, Bool, slice_index, ℕ, ◌<◌, List, ◌++◌, Option, Some, None, IfSome, cond, leb, take, drop, length}
+use Rattle.std.specs.Prelude.{◌==◌, ◌≡◌, Result, Ok, Err, MatchResult, IfOk, refl, Bool, slice_index, ℕ, ◌<◌, List, ◌++◌, Option, Some, None, IfSome, cond, leb, take, drop, length}
+use Rattle.std.specs.Result.{IsErrAnd}
 use Rattle.std.specs.Io.KnownBytes.{Appends}
 use Rattle.std.proofs.Common.{◌∙◌, sym, ap, subst, arith, length-take-le, take_all, take_at, le-leb}
 use Rattle.std.proofs.Math.Decide.{dec_lt}
-use Rattle.refusal.specs.declared.Reply.{Reply}
-use Rattle.refusal.specs.declared.Reply.TheVariants.{Done, Refused}
+use Rattle.refusal.specs.Refusals.{Reply}
 use Rattle.text.specs.Text.{bytes}
 use Rattle.refusal.specs.declared.Refusal.{Refusal}
 use Rattle.refusal.specs.declared.Refusal.TheVariants.{Text}
@@ -15,7 +15,7 @@ use Rattle.rows.specs.laws.Fitting.{too_long}
 use Rattle.sheet.specs.Sheet.{answer, printed, sheet_checks, refusal_text, result_text, FitsPage}
 use Rattle.receiver.specs.Bytes.{is_refusal, refuses}
 
-printed_refused : (reply : Reply) (r : Refusal) (l : DecodeLent) → reply ≡ Refused r → printed reply l ≡ refusal_text r
+printed_refused : (reply : Reply) (r : Refusal) (l : DecodeLent) → reply ≡ Err r → printed reply l ≡ refusal_text r
 unfolding printed
 printed_refused reply r l e = rw e refl
 
@@ -50,8 +50,8 @@ served (Some input) old new sheet room size is out =
 
 first_byte : (reply : Reply) (l : DecodeLent) → (slice_index (printed reply l) 0 == 114) ≡ is_refusal reply
 unfolding printed result_text refusal_text bytes is_refusal
-first_byte Done l = refl
-first_byte (Refused r) l = refl
+first_byte (Ok tt) l = refl
+first_byte (Err r) l = refl
 
 answer_refuses : (sheet : List ℕ) → (slice_index (answer sheet) 0 == 114) ≡ refuses sheet
 unfolding answer
@@ -63,3 +63,15 @@ refused None sheet text room told size is out first = tt
 refused (Some input) sheet text room told size is out first =
     let whole : text ≡ answer input = out ∙ ap answer (is ∙ ap (λ n. take n input) size) ∙ front_answered input in
     first ∙ ap (λ t. slice_index t 0 == 114) whole ∙ answer_refuses input
+
+-- ---- an error told as another leaves what is no error as it was
+
+pub was_ok : {A E F : Type 0} (Q : E → F → Type 0) (r : Result A E) (s : Result A F) (x : A) → MatchResult r (λ y. s ≡ Ok y) (λ e. IsErrAnd s (Q e)) → s ≡ Ok x → r ≡ Ok x
+was_ok {A = A} {F = F} Q (Ok y) s x m e = let same : ◌≡◌ {A = Result A F} (Ok y) (Ok x) = sym m ∙ e in let one : y ≡ x = cc in ap (λ z. Ok z) one
+was_ok Q (Err e) s x m f = absurd (subst (λ t. IsErrAnd t (Q e)) f m)
+
+pub if_ok : {A E F : Type 0} (Q : E → F → Type 0) {P R : A → Type 0} (r : Result A E) (s : Result A F) → MatchResult r (λ y. s ≡ Ok y) (λ e. IsErrAnd s (Q e))
+    → ((x : A) → P x → R x) → IfOk r P → IfOk s R
+if_ok Q {R = R} (Ok y) s m f h = subst (λ t. IfOk t R) (sym m) (f y h)
+if_ok Q (Err e) (Ok x) m f h = absurd m
+if_ok Q (Err e) (Err d) m f h = tt

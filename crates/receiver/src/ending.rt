@@ -32,10 +32,8 @@ pub fn report(rt: &(impl Env + Files), is_refused: bool) {
 
 // The system's words for an error, which end where its number begins.
 fn before_number(text: &str) -> &str {
-    match text.split_once(" (os error ") {
-        Some((words, _)) => words,
-        None => text,
-    }
+    text.split_once(" (os error ")
+        .map_or(text, |(words, _)| words)
 }
 
 // What failed, and why. Without memory for the words alone they come with the number.

@@ -1,23 +1,25 @@
 // A refusal in words. The answer's second line has its number and its line.
-use hints::Hint;
+use hints::{Hint, Kind};
 use std::io;
 use std::io::Write;
 
 // What is seen of the sheet as a whole, and whether that is all there is to say. An empty last line makes another line look faulty, so it is told alone.
-fn whole_sheet<W: Write>(err: &mut W, seen: Hint) -> io::Result<bool> {
-    let line = seen.line;
-    match seen.kind {
-        hints::EMPTY => write!(err, "The sheet is empty.")?,
-        hints::UTF16 => write!(
+fn whole_sheet<W: Write>(err: &mut W, seen: Option<Hint>) -> io::Result<bool> {
+    let Some(Hint { kind, line }) = seen else {
+        return Ok(false);
+    };
+    match kind {
+        Kind::Empty => write!(err, "The sheet is empty.")?,
+        Kind::Utf16 => write!(
             err,
             "The sheet is UTF-16, two bytes a character: save it as plain text."
         )?,
-        hints::BYTE_ORDER_MARK => write!(
+        Kind::ByteOrderMark => write!(
             err,
             "The sheet begins with a byte order mark: save it without one."
         )?,
-        hints::TOO_LONG => write!(err, "The sheet has more than 16,384 bytes.")?,
-        hints::EMPTY_LINE => write!(
+        Kind::TooLong => write!(err, "The sheet has more than 16,384 bytes.")?,
+        Kind::EmptyLine => write!(
             err,
             "Line {line}, the last, is empty: take it away, since it counts as a row."
         )?,
@@ -27,19 +29,21 @@ fn whole_sheet<W: Write>(err: &mut W, seen: Hint) -> io::Result<bool> {
 }
 
 // What is seen of a line.
-fn one_line<W: Write>(err: &mut W, seen: Hint) -> io::Result<()> {
-    let line = seen.line;
-    match seen.kind {
-        hints::CARRIAGE_RETURN => write!(
+fn one_line<W: Write>(err: &mut W, seen: Option<Hint>) -> io::Result<()> {
+    let Some(Hint { kind, line }) = seen else {
+        return Ok(());
+    };
+    match kind {
+        Kind::CarriageReturn => write!(
             err,
             " Line {line} has a carriage return: save the sheet with line feeds alone (LF, not CR LF)."
         ),
-        hints::TAB => write!(
+        Kind::Tab => write!(
             err,
             " Line {line} has a tab: fields are parted by one space."
         ),
-        hints::LAST_SPACE => write!(err, " Line {line} ends in a space: take it away."),
-        hints::NO_LINE_FEED => write!(err, " Line {line}, the last, is not ended by a line feed."),
+        Kind::LastSpace => write!(err, " Line {line} ends in a space: take it away."),
+        Kind::NoLineFeed => write!(err, " Line {line}, the last, is not ended by a line feed."),
         _ => Ok(()),
     }
 }
@@ -48,7 +52,7 @@ fn one_line<W: Write>(err: &mut W, seen: Hint) -> io::Result<()> {
 fn text_refused<W: Write>(err: &mut W, sheet: &[u8], line: &[u8]) -> io::Result<()> {
     let seen = hints::find(sheet);
     if !whole_sheet(err, seen)? {
-        if text::same(line, b"0") {
+        if line == b"0".as_slice() {
             write!(
                 err,
                 "The sheet has not from 3 to 514 rows after its header: 1 to 512 message rows and two tail rows."
@@ -78,25 +82,19 @@ fn value_refused<W: Write>(err: &mut W, line: &[u8]) -> io::Result<()> {
 
 // The words for the refusal that is the answer to a sheet: 1, 6, or else 8.
 pub fn refusal<W: Write>(err: &mut W, sheet: &[u8], answer: &[u8]) -> io::Result<()> {
-    let gap = text::next_at(answer, 13, b' ');
-    if answer.len() <= gap {
+    let Some(told) = answer.strip_prefix(b"refused line\n") else {
         return Ok(());
-    }
-    let from = gap + 1;
-    let end = answer.len() - 1;
-    if end < from {
+    };
+    let mut words = told.split(|b| *b == b' ' || *b == b'\n');
+    let (Some(number), Some(line)) = (words.next(), words.next()) else {
         return Ok(());
-    }
-    let number = &answer[13..gap];
-    let line = &answer[from..end];
-    if text::same(number, b"1") {
-        text_refused(err, sheet, line)
-    } else if text::same(number, b"6") {
-        value_refused(err, line)
-    } else {
-        writeln!(
+    };
+    match number {
+        b"1" => text_refused(err, sheet, line),
+        b"6" => value_refused(err, line),
+        _ => writeln!(
             err,
             "The column 'to' has not each message position exactly once. Look for a number twice, or one that is too large."
-        )
+        ),
     }
 }

@@ -15,24 +15,16 @@ mod input;
 mod output;
 
 use ending::Trouble;
-use input::Input;
 use std::io;
 use std::io::{Read, Write};
 use std::process::ExitCode;
 use std::rt::Files;
 
-// Room for a sheet and one byte more, which tells that it is too long.
-fn room() -> [u8; 16385]
-    ensures { 16385 ≡ length result }
+// Room for N bytes.
+fn room<const N: usize>() -> [u8; N]
+    ensures { N ≡ length result }
 {
-    [0; 16385]
-}
-
-// Room for every answer.
-fn page() -> [u8; 24600]
-    ensures { 24600 ≡ length result }
-{
-    [0; 24600]
+    [0; N]
 }
 
 // Writes the answer, which has at least one byte, and explains it where it is a refusal, which the answer says.
@@ -67,17 +59,13 @@ fn serve<F: Files, R: Read, W: Write, E: Write>(
         Appends (W.contents out.old) (W.contents out.new) (answer_to sheet))) }
     ensures refused { IfOk result (λ is_refused. IfSome (R.remaining source.old) (λ sheet. is_refused ≡ refuses sheet)) }
 {
-    let mut sheet = room();
-    let count = match input::read_sheet(source, &mut sheet) {
-        Input::Whole(count) => count,
-        Input::Failed(error) => return Err(Trouble::Unread(error)),
-    };
-    let mut answer = page();
+    // A sheet and one byte more, which tells that it is too long.
+    let mut sheet = room::<16385>();
+    let count = input::read_sheet(source, &mut sheet).map_err(Trouble::Unread)?;
+    // Every answer.
+    let mut answer = room::<24600>();
     let written = sheet::answer(&sheet[..count], &mut answer);
-    match finish(files, out, err, &sheet[..count], &answer[..written]) {
-        Ok(is_refused) => Ok(is_refused),
-        Err(error) => Err(Trouble::Unwritten(error)),
-    }
+    finish(files, out, err, &sheet[..count], &answer[..written]).map_err(Trouble::Unwritten)
 }
 
 fn main(rt: HostRuntime) -> ExitCode {

@@ -1,11 +1,9 @@
 -- What the reply to a list of checks is (document 01, "Refused frames and calls"; demand 1), said without going through them in turn.
 -- Assumes nothing.
-use Rattle.std.specs.Prelude.{◌≡◌, ◌↔◌, Bool, true, false, List, ◌∷◌, ◌++◌}
+use Rattle.std.specs.Prelude.{◌≡◌, ◌↔◌, Bool, true, false, List, ◌∷◌, ◌++◌, Ok, Err}
 use Rattle.lists.specs.Lists.{every}
 use Rattle.refusal.specs.declared.Refusal.{Refusal}
-use Rattle.refusal.specs.declared.Reply.{Reply}
-use Rattle.refusal.specs.declared.Reply.TheVariants.{Done, Refused}
-use Rattle.refusal.specs.Refusals.{Check, ◌unless◌}
+use Rattle.refusal.specs.Refusals.{Reply, Check, ◌unless◌}
 
 -- every test holds
 abbrev pub all_hold : List Check → Bool
@@ -20,5 +18,5 @@ pub record IsFirstToFail (cs : List Check) (r : Refusal) : Type 0 where
 
 -- done exactly where every test holds, and refused by r exactly where r is that of the first that fails
 pub record IsReply (cs : List Check) (reply : Reply) : Type 0 where
-  pub done : (reply ≡ Done) ↔ (all_hold cs ≡ true)
-  pub refused : (r : Refusal) → (reply ≡ Refused r) ↔ IsFirstToFail cs r
+  pub done : (reply ≡ Ok tt) ↔ (all_hold cs ≡ true)
+  pub refused : (r : Refusal) → (reply ≡ Err r) ↔ IsFirstToFail cs r

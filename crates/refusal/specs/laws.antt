@@ -1,3 +1,4 @@
 pub mod Checks
 pub mod Kept
 pub mod InTurn
+pub mod Passing

@@ -32,88 +32,84 @@ pub enum Refusal {
     NoTail,
 }
 
-#[derive(Clone, Copy)]
-pub enum Reply {
-    Done,
-    Refused(Refusal),
-}
+// The reply of an entry: done, or refused.
+pub type Reply = Result<(), Refusal>;
 
-// The number of a refusal, as the papers' tables have it.
-pub fn number_of_refusal(why: Refusal) -> u32
-    ensures { result ≡ (told why).number }
-{
-    match why {
-        Refusal::Text(_) => 1,
-        Refusal::Shape => 2,
-        Refusal::Polynomial => 15,
-        Refusal::Branch => 3,
-        Refusal::Length => 4,
-        Refusal::Lists => 5,
-        Refusal::Setting => 17,
-        Refusal::Sample => 18,
-        Refusal::Value(_) => 6,
-        Refusal::ValueInLine(_) => 6,
-        Refusal::Apriori(_) => 16,
-        Refusal::Bit => 7,
-        Refusal::Pattern => 8,
-        Refusal::Mask => 9,
-        Refusal::Iterations => 10,
-        Refusal::Coder => 11,
-        Refusal::NoPath => 12,
-        Refusal::ForcedPosition => 13,
-        Refusal::NoTail => 14,
+impl Refusal {
+    // Its number, as the papers' tables have it.
+    #[tactic(auto, unfolding(crate::specs::Refusals::told))]
+    pub fn number(self) -> u32
+        ensures { result ≡ (told self).number }
+    {
+        match self {
+            Refusal::Text(_) => 1,
+            Refusal::Shape => 2,
+            Refusal::Polynomial => 15,
+            Refusal::Branch => 3,
+            Refusal::Length => 4,
+            Refusal::Lists => 5,
+            Refusal::Setting => 17,
+            Refusal::Sample => 18,
+            Refusal::Value(_) | Refusal::ValueInLine(_) => 6,
+            Refusal::Apriori(_) => 16,
+            Refusal::Bit => 7,
+            Refusal::Pattern => 8,
+            Refusal::Mask => 9,
+            Refusal::Iterations => 10,
+            Refusal::Coder => 11,
+            Refusal::NoPath => 12,
+            Refusal::ForcedPosition => 13,
+            Refusal::NoTail => 14,
+        }
     }
-}
 
-// The place that a refusal names, 0 where it names none.
-pub fn place_of_refusal(why: Refusal) -> usize
-    ensures { result ≡ (told why).place }
-{
-    match why {
-        Refusal::Text(line) => line,
-        Refusal::Value(index) => index,
-        Refusal::ValueInLine(line) => line,
-        Refusal::Apriori(index) => index,
-        _ => 0,
+    // The place that it names, 0 where it names none.
+    #[tactic(auto, unfolding(crate::specs::Refusals::told))]
+    pub fn place(self) -> usize
+        ensures { result ≡ (told self).place }
+    {
+        match self {
+            Refusal::Text(line) | Refusal::ValueInLine(line) => line,
+            Refusal::Value(index) => index,
+            Refusal::Apriori(index) => index,
+            _ => 0,
+        }
     }
 }
 
 // The number of a reply: 0 stands for done.
+#[tactic(auto, unfolding(crate::specs::Refusals::number_of))]
 pub fn number_of(reply: Reply) -> u32
     ensures { result ≡ number_of reply }
 {
     match reply {
-        Reply::Done => 0,
-        Reply::Refused(reason) => number_of_refusal(reason),
+        Ok(()) => 0,
+        Err(why) => why.number(),
     }
 }
 
 // The place that a reply names: 0 where the call is done.
+#[tactic(auto, unfolding(crate::specs::Refusals::place_of))]
 pub fn place_of(reply: Reply) -> usize
     ensures { result ≡ place_of reply }
 {
-    let Reply::Refused(why) = reply else {
+    let Err(why) = reply else {
         return 0;
     };
-    place_of_refusal(why)
+    why.place()
 }
 
 // The reply to one check: refused by `why` unless it passes.
+#[tactic(auto, unfolding(crate::specs::Refusals::check))]
 pub fn check(passes: bool, why: Refusal) -> Reply
     ensures { result ≡ check_of passes why }
 {
-    if passes {
-        return Reply::Done;
-    }
-    Reply::Refused(why)
+    if passes { Ok(()) } else { Err(why) }
 }
 
 // The reply to two checks in turn: the first that refuses decides.
 pub fn first_of(x: Reply, y: Reply) -> Reply
     ensures { result ≡ (x then y) }
 {
-    match x {
-        Reply::Done => y,
-        Reply::Refused(_) => x,
-    }
+    x.and(y)
 }

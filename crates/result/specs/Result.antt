@@ -3,8 +3,7 @@
 use Rattle.std.specs.Prelude.{Bool, ◌&&◌, List, [], ◌∷◌, map, ℕ, eqb, leb, ℤ, pos, length}
 use Rattle.lists.specs.Lists.{every}
 use Rattle.refusal.specs.declared.Refusal.TheVariants.{Lists, Pattern, ForcedPosition}
-use Rattle.refusal.specs.declared.Reply.{Reply}
-use Rattle.refusal.specs.Refusals.{Check, ◌unless◌, first_of, after}
+use Rattle.refusal.specs.Refusals.{Reply, Check, ◌unless◌, first_of, after}
 use Rattle.frame.specs.Interleaver.{permutes, deinterleave}
 use Rattle.soft.specs.Soft.{decided}
 

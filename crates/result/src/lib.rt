@@ -1,56 +1,28 @@
 // The result lists of a decoding, in message order, from what its last passes say. It takes every call.
 #![tactic(auto)]
 
-ghost use Rattle.std.specs.Prelude.{◌&&◌, map, ◌≡◌, eqb, pos, length};
+ghost use Rattle.std.specs.Prelude.{◌&&◌, ◌≡◌, eqb, pos, length};
 ghost use Rattle.frame.specs.Interleaver.{deinterleave};
 ghost use Rattle.frame.specs.laws.Interleaving.{Permutes};
-ghost use Rattle.soft.specs.Soft.{decided};
 ghost use Rattle.result.specs.Result.{all_free, conclude_call_of, conclude_lent_of, conclude_result_of, conclude as concluded};
 
 use refusal::{Refusal, Reply};
 
-// out[pattern[i]] is the bit of xs[i].
-fn decide(pattern: &[u32], xs: &[i32], out: &mut [u8])
-    requires permutes { Permutes (length pattern.now) pattern.now }
-    requires xs_len { length xs.now ≡ length pattern.now }
-    requires out_len { length out.old ≡ length pattern.now }
-    ensures { out.new ≡ deinterleave 0 pattern.now (map decided xs.now) }
-{
-    let mut i: usize = 0;
-    while i < pattern.len() {
-        let to = pattern[i] as usize;
-        out[to] = soft::decided(xs[i]);
-        i += 1;
-    }
-}
-
 // out[pattern[i]] is xs[i].
-fn deinterleave_soft(pattern: &[u32], xs: &[i32], out: &mut [i32])
+fn in_message_order(pattern: &[u32], xs: &[i32], out: &mut [i32])
     requires permutes { Permutes (length pattern.now) pattern.now }
     requires xs_len { length xs.now ≡ length pattern.now }
     requires out_len { length out.old ≡ length pattern.now }
     ensures { out.new ≡ deinterleave (pos 0) pattern.now xs.now }
 {
-    let mut i: usize = 0;
-    while i < pattern.len() {
-        let to = pattern[i] as usize;
-        out[to] = xs[i];
-        i += 1;
-    }
+    frame::deinterleave(pattern, xs, out, |x| x);
 }
 
 // Every mark says free.
 fn all_free(marks: &[u8]) -> bool
     ensures { result ≡ all_free marks.now }
 {
-    let mut i: usize = 0;
-    while i < marks.len() {
-        if marks[i] != 2 {
-            return false;
-        }
-        i += 1;
-    }
-    true
+    marks.iter().all(|mark| *mark == 2)
 }
 
 // The lists of the passes, by their lengths: an entry for each of the pattern's.
@@ -63,29 +35,14 @@ fn passes_fit(
 ) -> bool
     ensures { result ≡ (eqb marks1 pattern && eqb marks2 pattern && eqb margins2 pattern && eqb extrinsics2 pattern) }
 {
-    if marks1 != pattern {
-        return false;
-    }
-    if marks2 != pattern {
-        return false;
-    }
-    if margins2 != pattern {
-        return false;
-    }
-    extrinsics2 == pattern
+    marks1 == pattern && marks2 == pattern && margins2 == pattern && extrinsics2 == pattern
 }
 
 // So the result lists.
 fn results_fit(pattern: usize, bits: usize, margins: usize, extrinsics: usize) -> bool
     ensures { result ≡ (eqb bits pattern && eqb margins pattern && eqb extrinsics pattern) }
 {
-    if bits != pattern {
-        return false;
-    }
-    if margins != pattern {
-        return false;
-    }
-    extrinsics == pattern
+    bits == pattern && margins == pattern && extrinsics == pattern
 }
 
 // The result lists, from the marks of the last pass 1 and what the last pass 2 says: 5, 8, 13 where a message position is forced in
@@ -114,22 +71,22 @@ pub fn conclude(
         margins2.len(),
         extrinsics2.len(),
     ) {
-        return Reply::Refused(Refusal::Lists);
+        return Err(Refusal::Lists);
     }
     if !results_fit(k, bits.len(), margins.len(), extrinsics.len()) {
-        return Reply::Refused(Refusal::Lists);
+        return Err(Refusal::Lists);
     }
     if !frame::permutes(pattern) {
-        return Reply::Refused(Refusal::Pattern);
+        return Err(Refusal::Pattern);
     }
     if !all_free(marks1) {
-        return Reply::Refused(Refusal::ForcedPosition);
+        return Err(Refusal::ForcedPosition);
     }
     if !all_free(marks2) {
-        return Reply::Refused(Refusal::ForcedPosition);
+        return Err(Refusal::ForcedPosition);
     }
-    decide(pattern, margins2, bits);
-    deinterleave_soft(pattern, margins2, margins);
-    deinterleave_soft(pattern, extrinsics2, extrinsics);
-    Reply::Done
+    frame::deinterleave(pattern, margins2, bits, soft::decided);
+    in_message_order(pattern, margins2, margins);
+    in_message_order(pattern, extrinsics2, extrinsics);
+    Ok(())
 }

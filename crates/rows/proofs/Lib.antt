@@ -1,1 +1,3 @@
 pub mod Replying
+pub mod Cutting
+pub mod Rowing

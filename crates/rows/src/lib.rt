@@ -8,20 +8,18 @@ mod lines;
 pub use faults::{message_bits, text_reply};
 pub use fields::{message_row, tail_in};
 
-// A message row as it is received, or zeros where the text is none.
-#[derive(Clone, Copy)]
+// A message row as it is received.
+#[derive(Clone, Copy, Default)]
 pub struct Message {
-    pub fits: bool,
     pub to: u32,
     pub sys: i32,
     pub par: i32,
     pub par2: i32,
 }
 
-// A tail row, or zeros where the text is none.
-#[derive(Clone, Copy)]
+// A tail row.
+#[derive(Clone, Copy, Default)]
 pub struct Tail {
-    pub fits: bool,
     pub sys: i32,
     pub par: i32,
     pub par2: i32,

@@ -10,8 +10,7 @@ use Rattle.std.specs.Float.Ieee.Scale.{finite}
 use Rattle.integers.specs.Integers.{limited}
 use Rattle.lists.specs.Lists.{every}
 use Rattle.refusal.specs.declared.Refusal.TheVariants.{Lists, Setting as SettingRefused, Sample}
-use Rattle.refusal.specs.declared.Reply.{Reply}
-use Rattle.refusal.specs.Refusals.{Check, ◌unless◌, first_of, after}
+use Rattle.refusal.specs.Refusals.{Reply, Check, ◌unless◌, first_of, after}
 use Rattle.trellis.specs.Limits.{channel_limit}
 use Rattle.samples.specs.declared.Channel.{Channel}
 use Rattle.samples.specs.declared.Channel.TheVariants.{Steady, Fading, Silent}

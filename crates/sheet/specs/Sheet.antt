@@ -1,6 +1,6 @@
 -- A sheet (document 01, "Sheet"): from its rows to a frame, or to a refusal with its line; from the result to the bytes printed.
 -- Assumes nothing.
-use Rattle.std.specs.Prelude.{List, [], ◌∷◌, ◌++◌, ℕ, suc, ◌+◌, ◌*◌, ◌≤◌, ℤ, pos, length, get_or, replicate}
+use Rattle.std.specs.Prelude.{List, [], ◌∷◌, ◌++◌, ℕ, suc, ◌+◌, ◌*◌, ◌≤◌, ℤ, pos, length, get_or, replicate, Ok, Err}
 use Rattle.std.proofs.Math.Option
 use Rattle.std.proofs.Math.Option.{none}
 use Rattle.lists.specs.Lists.{listed, joined, first_failing}
@@ -8,9 +8,7 @@ use Rattle.text.specs.Text.{bytes}
 use Rattle.text.specs.Decimal.{digits, decimal}
 use Rattle.refusal.specs.declared.Refusal.{Refusal}
 use Rattle.refusal.specs.declared.Refusal.TheVariants.{ValueInLine}
-use Rattle.refusal.specs.declared.Reply.{Reply}
-use Rattle.refusal.specs.declared.Reply.TheVariants.{Done, Refused}
-use Rattle.refusal.specs.Refusals.{told, Check, ◌unless◌, first_of}
+use Rattle.refusal.specs.Refusals.{Reply, told, Check, ◌unless◌, first_of}
 use Rattle.rows.specs.Rows.{MessageRow, TailRow, message_row, tail_row}
 use Rattle.rows.specs.Lines.{lines_of, message_bits, text_checks}
 use Rattle.rows.specs.Lent.{received_value}
@@ -97,8 +95,8 @@ unfoldable pub result_text : DecodeLent → List ℕ
 result_text l = bytes "at bit margin extrinsic\n" ++ joined (result_line l) (length l.bits)
 
 unfoldable pub printed : Reply → DecodeLent → List ℕ
-printed Done l = result_text l
-printed (Refused r) l = refusal_text r
+printed (Ok tt) l = result_text l
+printed (Err r) l = refusal_text r
 
 -- all checks of a sheet: 1, then 6 with its line, stand before every other number that the frame decoder gives
 unfoldable pub sheet_checks : List ℕ → List Check

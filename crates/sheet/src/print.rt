@@ -1,11 +1,12 @@
 // The answer's text, written to a page from its start.
-ghost use Rattle.std.specs.Prelude.{[], ◌∷◌, ◌++◌, ◌≡◌, ◌+◌, ◌≤◌, ◌<◌, length, take};
+ghost use Rattle.std.specs.Prelude.{[], ◌∷◌, ◌++◌, ◌≡◌, ◌+◌, ◌≤◌, ◌<◌, length};
 ghost use Rattle.decoder.specs.Lent.{decode_lent_of};
 ghost use Rattle.refusal.specs.Refusals.{told};
 ghost use Rattle.text.specs.Decimal.{decimal as decimal_of};
 ghost use Rattle.sheet.specs.Sheet.{refusal_text, result_text};
 ghost use Rattle.sheet.specs.laws.Printing.{Pasted, Wrote, line_text};
 
+use crate::Page;
 use refusal::Refusal;
 
 // A text at a place; the place after it.
@@ -13,21 +14,9 @@ pub fn put(page: &mut [u8], at: usize, bytes: &[u8]) -> usize
     requires { at + length bytes.now ≤ length page.old }
     ensures { Pasted page.old at bytes.now page.new result }
 {
-    let mut i: usize = 0;
-    while i < bytes.len() {
-        page[at + i] = bytes[i];
-        i += 1;
-    }
-    at + i
-}
-
-// The first bytes of an array.
-fn put_front(page: &mut [u8], at: usize, bytes: [u8; 11], len: usize) -> usize
-    requires len_bound { len ≤ 11 }
-    requires at_in_bounds { at + 11 ≤ length page.old }
-    ensures { Wrote 11 page.old at (take len bytes) page.new result }
-{
-    put(page, at, &bytes[..len])
+    let end = at + bytes.len();
+    page[at..end].copy_from_slice(bytes);
+    end
 }
 
 // A number and a byte.
@@ -36,9 +25,7 @@ fn put_number(page: &mut [u8], at: usize, z: i32, end: u8) -> usize
     ensures { Wrote 12 page.old at (decimal_of z ++ (end ∷ [])) page.new result }
 {
     let digits = text::decimal(z);
-    let bytes = digits.bytes;
-    let len = digits.len;
-    let next = put_front(page, at, bytes, len);
+    let next = put(page, at, digits.as_bytes());
     page[next] = end;
     next + 1
 }
@@ -55,9 +42,8 @@ fn put_line(page: &mut [u8], at: usize, k: usize, bit: u8, margin: i32, extrinsi
     put_number(page, three, extrinsic, 10)
 }
 
-// The result: its header, and a line for each message position.
-pub fn put_result(page: &mut [u8], bits: &[u8], margins: &[i32], extrinsics: &[i32]) -> usize
-    requires page_len { length page.old ≡ 24600 }
+// The result: its header, and a line for each message position. The other two lists go by k: over a zip of all three, tried, goal `loop-k-init` stayed open.
+pub fn put_result(page: &mut Page, bits: &[u8], margins: &[i32], extrinsics: &[i32]) -> usize
     requires bits_len_bound { length bits.now ≤ 512 }
     requires margins_len { length margins.now ≡ length bits.now }
     requires extrinsics_len { length extrinsics.now ≡ length bits.now }
@@ -66,22 +52,20 @@ pub fn put_result(page: &mut [u8], bits: &[u8], margins: &[i32], extrinsics: &[i
         page.new result }
 {
     let mut at = put(page, 0, b"at bit margin extrinsic\n");
-    let mut k: usize = 0;
-    while k < bits.len() {
-        at = put_line(page, at, k, bits[k], margins[k], extrinsics[k]);
-        k += 1;
+    for (k, bit) in bits.iter().enumerate() {
+        at = put_line(page, at, k, *bit, margins[k], extrinsics[k]);
     }
     at
 }
 
 // A refusal: its number and its line.
-pub fn put_refusal(page: &mut [u8], why: Refusal) -> usize
-    requires page_len { length page.old ≡ 24600 }
-    requires why_bound { (told why).place ≤ 516 }
+#[tactic(auto, using(refusal::specs::laws::Checks::number_small))]
+pub fn put_refusal(page: &mut Page, why: Refusal) -> usize
+    requires { (told why).place ≤ 516 }
     ensures { Wrote 24600 page.old 0 (refusal_text why) page.new result }
 {
-    let number = refusal::number_of_refusal(why) as i32;
-    let line = refusal::place_of_refusal(why) as i32;
+    let number = why.number() as i32;
+    let line = why.place() as i32;
     let one = put(page, 0, b"refused line\n");
     let two = put_number(page, one, number, 32);
     put_number(page, two, line, 10)

@@ -14,7 +14,7 @@ use trellis::{Outcome, Position};
 pub fn intrinsic(y: i16, a: i16, sys: bool) -> i32
     ensures { result ≡ a +ℤ cond sys y (pos 0) }
 {
-    if sys { own_of(a, y) } else { a as i32 }
+    if sys { own_of(a, y) } else { i32::from(a) }
 }
 
 // The position, from the best metrics with bit 0 and with bit 1, one of which is there, and the intrinsic part of its margin.
@@ -25,10 +25,9 @@ fn settled(zero: i32, one: i32, intrinsic: i32) -> Position
     requires fact { outcome_of (held zero) (held one) ≡ none → ⊥ }
     ensures { some result ≡ position_of intrinsic (outcome_of (held zero) (held one)) }
 {
-    let free = is_free(zero, one);
-    if !free {
+    if !is_free(zero, one) {
         return Position {
-            outcome: Outcome::Forced(mark_of(free, one)),
+            outcome: Outcome::Forced(mark_of(false, one)),
             extrinsic: 0,
         };
     }
@@ -40,6 +39,7 @@ fn settled(zero: i32, one: i32, intrinsic: i32) -> Position
 }
 
 // Writes a position to the result lists: 2 marks a free one, with its margin, and the bit a forced one, with margin 0.
+#[tactic(auto, unfolding(trellis::specs::Outcome::mark, trellis::specs::Outcome::margin))]
 fn put(k: usize, p: Position, marks: &mut [u8], margins: &mut [i32], extrinsics: &mut [i32])
     requires k_in_bounds { k < length marks.old }
     requires k_in_bounds_2 { k < length margins.old }
@@ -48,10 +48,8 @@ fn put(k: usize, p: Position, marks: &mut [u8], margins: &mut [i32], extrinsics:
     ensures margins_after { margins.new ≡ set margins.old k (margin_of p.outcome) }
     ensures extrinsics_after { extrinsics.new ≡ set extrinsics.old k p.extrinsic }
 {
-    let o = p.outcome;
-    let e = p.extrinsic;
-    extrinsics[k] = e;
-    match o {
+    extrinsics[k] = p.extrinsic;
+    match p.outcome {
         Outcome::Free(m) => {
             marks[k] = 2;
             margins[k] = m;
@@ -96,8 +94,7 @@ pub fn gather_at(
     let best0 = larger(had(first, margins[k]), zero);
     let best1 = larger(had(first, extrinsics[k]), one);
     if last {
-        let p = settled(best0, best1, told);
-        put(k, p, marks, margins, extrinsics);
+        put(k, settled(best0, best1, told), marks, margins, extrinsics);
     } else {
         margins[k] = best0;
         extrinsics[k] = best1;

@@ -11,27 +11,25 @@ use crate::metric::{plus, through};
 use metrics::{NOTHING, larger};
 
 // Bit l of a word.
+#[tactic(auto, unfolding(trellis::specs::Table::output))]
 fn output(word: usize, l: usize) -> usize
     requires { l < 4 }
     ensures { result ≡ output_of word l }
 {
-    match l {
-        0 => word % 2,
-        1 => word / 2 % 2,
-        2 => word / 4 % 2,
-        _ => word / 8 % 2,
-    }
+    word >> l & 1
 }
 
 // sign × value.
+#[tactic(auto, using(crate::proofs::Parts::signs))]
 fn signed(bit: usize, x: i32) -> i32
     requires { Within 8191 x }
     ensures { result ≡ signed_by bit x }
 {
-    if bit == 0 { 0 - x } else { x }
+    if bit == 0 { -x } else { x }
 }
 
 // A word's part with that of its output l.
+#[tactic(auto, using(crate::proofs::Parts::sums))]
 fn with_output(g: i32, word: usize, l: usize, y: i32) -> i32
     requires l_bound { l < 4 }
     requires within { Within 3069 g }
@@ -42,61 +40,37 @@ fn with_output(g: i32, word: usize, l: usize, y: i32) -> i32
 }
 
 // A word's part in the metric of a section with four channel values.
-fn word_metric(word: usize, y0: i32, y1: i32, y2: i32, y3: i32) -> i32
-    requires within { Within 1023 y0 }
-    requires within_2 { Within 1023 y1 }
-    requires within_3 { Within 1023 y2 }
-    requires within_4 { Within 1023 y3 }
-    ensures { result ≡ word_metric (λ l. get_or (y0 ∷ y1 ∷ y2 ∷ y3 ∷ []) l (pos 0)) word 4 }
+fn word_metric(word: usize, ys: [i32; 4]) -> i32
+    requires { (l : ℕ) → Within 1023 (get_or ys l (pos 0)) }
+    ensures { result ≡ word_metric (λ l. get_or ys l (pos 0)) word 4 }
 {
-    let one = with_output(0, word, 0, y0);
-    let two = with_output(one, word, 1, y1);
-    let three = with_output(two, word, 2, y2);
-    with_output(three, word, 3, y3)
+    let mut g = 0;
+    for (l, y) in ys.iter().enumerate() {
+        g = with_output(g, word, l, *y);
+    }
+    g
 }
 
 // Channel value l of a section; 0 counts for an output that is not there.
 fn value(channel: &[i16], l: usize) -> i32
     ensures { result ≡ get_or channel.now l (pos 0) }
 {
-    if l < channel.len() {
-        channel[l] as i32
-    } else {
-        0
+    channel.get(l).map_or(0, |y| i32::from(*y))
+}
+
+// The metrics of the words of a section with four channel values. Their number is told beside the list, so that it can be one that is known beforehand.
+fn put_words(ys: [i32; 4], count: usize, g: &mut [i32])
+    requires within { (l : ℕ) → Within 1023 (get_or ys l (pos 0)) }
+    requires g_len { length g.old ≡ count }
+    ensures { (w : ℕ) → w < length g.new → get_or g.new w (pos 0) ≡ word_metric (λ l. get_or ys l (pos 0)) w 4 }
+{
+    for w in 0..count {
+        g[w] = word_metric(w, ys);
     }
 }
 
-// The metrics of the words of two outputs.
-fn four_words(y0: i32, y1: i32, g: &mut [i32])
-    requires within { Within 1023 y0 }
-    requires within_2 { Within 1023 y1 }
-    requires g_len { length g.old ≡ 4 }
-    ensures { WordMetrics (y0 ∷ y1 ∷ []) g.new }
-{
-    g[0] = word_metric(0, y0, y1, 0, 0);
-    g[1] = word_metric(1, y0, y1, 0, 0);
-    g[2] = word_metric(2, y0, y1, 0, 0);
-    g[3] = word_metric(3, y0, y1, 0, 0);
-}
-
-// The metrics of the words of any outputs.
-fn all_words(channel: &[i16], g: &mut [i32])
-    requires channel_len_bound { length channel.now ≤ 4 }
-    requires by_index { (l : ℕ) → l < length channel.now → Within 1023 (get_or channel.now l (pos 0)) }
-    ensures { WordMetrics channel.now g.new }
-{
-    let y0 = value(channel, 0);
-    let y1 = value(channel, 1);
-    let y2 = value(channel, 2);
-    let y3 = value(channel, 3);
-    let mut w: usize = 0;
-    while w < g.len() {
-        g[w] = word_metric(w, y0, y1, y2, y3);
-        w += 1;
-    }
-}
-
-// The part of each word in the metric of a section, from the section's channel values. Two outputs, as every frame has, go the short way.
+// The part of each word in the metric of a section, from the section's channel values. Two outputs, as every frame has, go the short way: one way for all was
+// tried, and a pass took 16 in a hundred more instructions.
 fn word_metrics(channel: &[i16], g: &mut [i32])
     requires channel_len_bound { length channel.now ≤ 4 }
     requires by_index { (l : ℕ) → l < length channel.now → Within 1023 (get_or channel.now l (pos 0)) }
@@ -104,13 +78,20 @@ fn word_metrics(channel: &[i16], g: &mut [i32])
     ensures { WordMetrics channel.now g.new }
 {
     if channel.len() == 2 {
-        four_words(channel[0] as i32, channel[1] as i32, g);
+        put_words([value(channel, 0), value(channel, 1), 0, 0], 4, g);
     } else {
-        all_words(channel, g);
+        let ys = [
+            value(channel, 0),
+            value(channel, 1),
+            value(channel, 2),
+            value(channel, 3),
+        ];
+        put_words(ys, g.len(), g);
     }
 }
 
 // The metric of a branch of bit b: sign × a-priori value, and the part g of the branch's word.
+#[tactic(auto, using(crate::proofs::Parts::sums))]
 fn branch_metric(b: usize, a: i32, g: i32) -> i32
     requires within { Within 8191 a }
     requires within_2 { Within 4092 g }
@@ -127,12 +108,11 @@ fn metric_at(words: &[u8], g: &[i32], i: usize, b: usize, a: i32) -> i32
     requires within_2 { Within 8191 a }
     ensures { result ≡ signed_by b a +ℤ get_or g.now (get_or words.now i 0) (pos 0) }
 {
-    let w = words[i] as usize;
-    branch_metric(b, a, g[w])
+    branch_metric(b, a, g[usize::from(words[i])])
 }
 
 // The metrics after a section, from those before it, which are stored in the working list from a place on. The list g takes the metrics of
-// the section's words.
+// the section's words. The two steps are lent the lists that they read and no pass, since their contracts speak of one section.
 pub fn forwards(
     next: &[u8],
     words: &[u8],
@@ -156,20 +136,16 @@ pub fn forwards(
 {
     word_metrics(channel, g);
     let mut out = [NOTHING; 16];
-    let mut s: usize = 0;
-    while s < states {
+    for s in 0..states {
         let i = 2 * s;
         let x = m[s];
         work[at + s] = x;
-        let t0 = next[i] as usize;
-        let t1 = next[i + 1] as usize;
+        let t0 = usize::from(next[i]);
+        let t1 = usize::from(next[i + 1]);
         let y0 = plus(x, metric_at(words, g, i, 0, a));
         let y1 = plus(x, metric_at(words, g, i + 1, 1, a));
-        let had0 = out[t0];
-        out[t0] = larger(had0, y0);
-        let had1 = out[t1];
-        out[t1] = larger(had1, y1);
-        s += 1;
+        out[t0] = larger(out[t0], y0);
+        out[t1] = larger(out[t1], y1);
     }
     out
 }
@@ -213,26 +189,20 @@ pub fn backwards(
     let mut out = [NOTHING; 16];
     let mut zero = NOTHING;
     let mut one = NOTHING;
-    let mut s: usize = 0;
-    while s < states {
+    for s in 0..states {
         let i = 2 * s;
         let f = work[at + s];
-        let t0 = next[i] as usize;
         let g0 = metric_at(words, g, i, 0, a);
-        let m0 = m[t0];
-        let t1 = next[i + 1] as usize;
+        let m0 = m[usize::from(next[i])];
         let g1 = metric_at(words, g, i + 1, 1, a);
-        let m1 = m[t1];
+        let m1 = m[usize::from(next[i + 1])];
         out[s] = larger(plus(m0, g0), plus(m1, g1));
-        let best0 = larger(zero, through(f, g0, m0));
-        zero = best0;
-        let best1 = larger(one, through(f, g1, m1));
-        one = best1;
-        s += 1;
+        zero = larger(zero, through(f, g0, m0));
+        one = larger(one, through(f, g1, m1));
     }
     Back {
         metrics: out,
-        zero: zero,
-        one: one,
+        zero,
+        one,
     }
 }

@@ -1,13 +1,15 @@
 -- Three quarters of an extrinsic as the code has them: in the wider type three times the extrinsic fits, and so does a quarter of that. Once it is
--- limited, it is what is handed over.
+-- limited, it is what is handed over, and fits the narrow type.
 -- Assumes nothing.
-use Rattle.std.specs.Prelude.{◌≡◌, true, false, ℤ, pos, ◌*ℤ◌}
-use Rattle.std.proofs.Common.{arith, SFits, to_z, of_z, to_z-of_z}
+use Rattle.std.specs.Prelude.{◌≡◌, refl, Bool, true, false, cond, ℤ, pos, ◌*ℤ◌}
+use Rattle.std.proofs.Common.{◌∙◌, arith, SFits, to_z, of_z, to_z-of_z}
 use Rattle.std.proofs.Math.IntN.{negsuc}
 use Rattle.std.proofs.Math.Facts.{sfits_widen}
-use Rattle.std.specs.Int.{w16, w32, w64}
+use Rattle.std.specs.Int.{w16, w32, w64, int_max, int_min}
 use Rattle.std.specs.Int.Signed.{lt_z, quot_z}
+use Rattle.integers.specs.Integers.{limited}
 use Rattle.integers.specs.laws.Linear.{ints, plain}
+use Rattle.trellis.specs.Limits.{apriori_limit}
 use Rattle.soft.specs.Soft.{hand_over}
 
 -- what the wider type holds of a 32-bit number
@@ -26,22 +28,24 @@ ruleset read = (plain, wide, tripled, quartered)
 abbrev scaled : ℤ → ℤ
 scaled e = to_z w64 (of_z w64 (quot_z (to_z w64 (of_z w64 (pos 3 *ℤ to_z w64 (of_z w64 (to_z w32 (of_z w32 e)))))) (pos 4)))
 
-module _ (e : ℤ) (f : SFits w32 e) where
-  scaled_is : scaled e ≡ quot_z (pos 3 *ℤ e) (pos 4)
-  scaled_is = simp read
+-- `clamp` is the definition's limit
+clamped_is : (z : ℤ) → int_max (negsuc 8190) (int_min z (pos 8191)) ≡ limited apriori_limit z
+clamped_is z = above (lt_z (pos 8191) z) refl
+  where
+    below : (t : Bool) → lt_z (pos 8191) z ≡ false → lt_z z (negsuc 8190) ≡ t → cond t (negsuc 8190) z ≡ limited apriori_limit z
+    below true g h = simp ints (omega (arith, simp ints at g, simp ints at h))
+    below false g h = simp ints (omega (arith, simp ints at g, simp ints at h))
 
-  pub scaled_low : lt_z (scaled e) (negsuc 8190) ≡ true → negsuc 8190 ≡ hand_over e
-  unfolding hand_over
-  scaled_low h = let low = rw scaled_is at h in simp ints (omega (arith, simp ints at low))
+    above : (t : Bool) → lt_z (pos 8191) z ≡ t → int_max (negsuc 8190) (cond t (pos 8191) z) ≡ limited apriori_limit z
+    above true h = simp ints (omega (arith, simp ints at h))
+    above false h = below (lt_z z (negsuc 8190)) h refl
 
-  pub scaled_high : lt_z (pos 8191) (scaled e) ≡ true → pos 8191 ≡ hand_over e
-  unfolding hand_over
-  scaled_high h = let high = rw scaled_is at h in simp ints (omega (arith, simp ints at high))
-
-  pub scaled_within : lt_z (scaled e) (negsuc 8190) ≡ false → lt_z (pos 8191) (scaled e) ≡ false → to_z w16 (of_z w16 (scaled e)) ≡ hand_over e
-  unfolding hand_over
-  scaled_within g h =
-      let not_low = rw scaled_is at g in
-      let not_high = rw scaled_is at h in
-      let small : SFits w16 (quot_z (pos 3 *ℤ e) (pos 4)) = simp ints (omega (arith, simp ints at not_low, simp ints at not_high)) in
-      rw (scaled_is, to_z-of_z small) (simp ints (omega (arith, simp ints at not_low, simp ints at not_high)))
+pub handed_is : {e r n : ℤ} → SFits w32 e → n ≡ to_z w32 (of_z w32 e) →
+    r ≡ int_max (negsuc 8190) (int_min (to_z w64 (of_z w64 (quot_z (to_z w64 (of_z w64 (pos 3 *ℤ to_z w64 (of_z w64 n)))) (pos 4)))) (pos 8191)) →
+    to_z w16 (of_z w16 (to_z w64 (of_z w64 r))) ≡ hand_over e
+unfolding hand_over
+handed_is {e} {r} f from is =
+    let q : scaled e ≡ quot_z (pos 3 *ℤ e) (pos 4) = simp read in
+    let clamped : r ≡ limited apriori_limit (quot_z (pos 3 *ℤ e) (pos 4)) = is ∙ rw (from, q) (clamped_is _) in
+    let narrow : SFits w16 (limited apriori_limit (quot_z (pos 3 *ℤ e) (pos 4))) = simp ints (omega arith) in
+    rw (clamped, to_z-of_z (sfits_widen tt narrow), to_z-of_z narrow) refl

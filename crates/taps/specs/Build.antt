@@ -2,8 +2,7 @@
 -- Assumes nothing.
 use Rattle.std.specs.Prelude.{Bool, not, ◌&&◌, ◌||◌, List, [], ◌∷◌, ℕ, ◌+◌, ◌*◌, ◌%◌, ◌^◌, eqb, leb, ltb, length}
 use Rattle.refusal.specs.declared.Refusal.TheVariants.{Shape, Polynomial}
-use Rattle.refusal.specs.declared.Reply.{Reply}
-use Rattle.refusal.specs.Refusals.{Check, ◌unless◌, first_of, after}
+use Rattle.refusal.specs.Refusals.{Reply, Check, ◌unless◌, first_of, after}
 use Rattle.taps.specs.Taps.{taps_table}
 
 -- memory, feedback number and parity number

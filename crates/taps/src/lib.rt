@@ -7,6 +7,7 @@ ghost use Rattle.taps.specs.Build.{taps_built, taps_call_of, taps_lent_of, taps_
 mod branch;
 mod checks;
 
+use branch::Register;
 use refusal::Reply;
 
 // The next states and words of the table that the taps give, to `next` and `words`. Where it is refused, by 2 or 15, both are as they were.
@@ -21,17 +22,14 @@ pub fn taps_table(
         ≡ taps_built (taps_call_of memory feedback parity)
         (taps_lent_of next.old words.old) }
 {
-    let reply = checks::taps_reply(memory, feedback, parity, next.len(), words.len());
-    if let Reply::Refused(_) = reply {
-        return reply;
-    }
+    checks::taps_reply(memory, feedback, parity, next, words)?;
     // A state is a word of m bits, so there are as many.
-    branch::fill(
-        trellis::word_count(memory) as u32,
+    let states = trellis::word_count(memory) as u32;
+    let register = Register {
+        states,
         feedback,
         parity,
-        next,
-        words,
-    );
-    Reply::Done
+    };
+    register.fill(next, words);
+    Ok(())
 }

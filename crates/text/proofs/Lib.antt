@@ -1,1 +1,3 @@
 pub mod Reading
+pub mod Chains
+pub mod Printing

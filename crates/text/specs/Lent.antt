@@ -1,18 +1,17 @@
 -- What the functions hand back, as the definitions' values.
 -- Assumes nothing.
-use Rattle.std.specs.Prelude.{List, ℕ, ℤ, take}
+use Rattle.std.specs.Prelude as std
+use Rattle.std.specs.Prelude.{List, ℕ, ℤ, take, Some, None}
 use Rattle.std.proofs.Math.Option.{Option, none, some}
-use Rattle.text.specs.declared.Natural.{Natural}
-use Rattle.text.specs.declared.Integer.{Integer}
 use Rattle.text.specs.declared.Digits.{Digits}
 
-abbrev pub natural_of : Natural → Option ℕ
-natural_of Natural.Nothing = none
-natural_of (Natural.Is n) = some n
+abbrev pub natural_of : std.Option ℕ → Option ℕ
+natural_of None = none
+natural_of (Some n) = some n
 
-abbrev pub integer_of : Integer → Option ℤ
-integer_of Integer.Nothing = none
-integer_of (Integer.Is z) = some z
+abbrev pub integer_of : std.Option ℤ → Option ℤ
+integer_of None = none
+integer_of (Some z) = some z
 
 -- the bytes that are printed
 abbrev pub digits_of : Digits → List ℕ

@@ -1,45 +1,39 @@
 // Numbers as the program prints them.
-ghost use Rattle.std.specs.Prelude.{[], ◌∷◌, ◌++◌, ◌≡◌, ◌+◌, ◌≤◌, ◌<◌, nat_abs, length};
+ghost use Rattle.std.specs.Prelude.{[], ◌∷◌, ◌++◌, ◌≡◌, ◌+◌, ◌≤◌, ◌<◌, length};
 ghost use Rattle.text.specs.Decimal.{digits, decimal as decimal_of};
 ghost use Rattle.text.specs.Lent.{digits_of};
 
 use crate::Digits;
 
-// One byte more.
-fn with_byte(text: Digits, byte: u8) -> Digits
-    requires { text.len < 11 }
-    ensures { (result.len ≡ text.len + 1) × (digits_of result ≡ digits_of text ++ (byte ∷ [])) }
-{
-    let mut bytes = text.bytes;
-    let len = text.len;
-    bytes[len] = byte;
-    Digits {
-        bytes,
-        len: len + 1,
+impl Digits {
+    // The bytes that count.
+    pub fn as_bytes(&self) -> &[u8]
+        ensures { result.now ≡ digits_of self.now }
+    {
+        &self.bytes[..self.len]
     }
-}
 
-// The digits of n after what is there.
-fn with_digits(text: Digits, n: u32) -> Digits
-    requires { text.len + length (digits n) ≤ 11 }
-    ensures { (result.len ≡ text.len + length (digits n)) × (digits_of result ≡ digits_of text ++ digits n) }
-{
-    if n < 10 {
-        return with_byte(text, 48 + n as u8);
+    // One byte more.
+    fn push(&mut self, byte: u8)
+        requires { self.old.len < 11 }
+        ensures len { self.new.len ≡ self.old.len + 1 }
+        ensures text { digits_of self.new ≡ digits_of self.old ++ (byte ∷ []) }
+    {
+        self.bytes[self.len] = byte;
+        self.len += 1;
     }
-    let front = with_digits(text, n / 10);
-    with_byte(front, 48 + (n % 10) as u8)
-}
 
-// The size of a number, whatever its sign. In the wider type the negation of each fits.
-fn size(z: i32) -> u32
-    ensures { result ≡ nat_abs z }
-{
-    let wide = z as i64;
-    if wide < 0 {
-        (0 - wide) as u32
-    } else {
-        wide as u32
+    // The digits of n after what is there. `write!` is no plainer: it needs a `fmt::Write` over these bytes, and a law that std's text is this one.
+    #[tactic(auto, using(crate::proofs::Printing::printing))]
+    fn push_digits(&mut self, n: u32)
+        requires { self.old.len + length (digits n) ≤ 11 }
+        ensures len { self.new.len ≡ self.old.len + length (digits n) }
+        ensures text { digits_of self.new ≡ digits_of self.old ++ digits n }
+    {
+        if 10 <= n {
+            self.push_digits(n / 10);
+        }
+        self.push(b'0' + (n % 10) as u8);
     }
 }
 
@@ -48,14 +42,13 @@ fn size(z: i32) -> u32
 pub fn decimal(z: i32) -> Digits
     ensures { (digits_of result ≡ decimal_of z) × (result.len ≤ 11) }
 {
-    let nothing = Digits {
-        bytes: [0u8; 11],
+    let mut text = Digits {
+        bytes: [0; 11],
         len: 0,
     };
-    let n = size(z);
     if z < 0 {
-        let sign = with_byte(nothing, 45);
-        return with_digits(sign, n);
+        text.push(b'-');
     }
-    with_digits(nothing, n)
+    text.push_digits(z.unsigned_abs());
+    text
 }

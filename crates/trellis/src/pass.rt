@@ -1,59 +1,22 @@
 // The checks of a pass: its number of sections, the lengths of its lists, and its values.
 ghost use Rattle.std.specs.Prelude.{◌&&◌, [], ◌∷◌, ◌≡◌, ◌+◌, ◌*◌, eqb, leb};
-ghost use Rattle.refusal.specs.Refusals.{first_of};
+ghost use Rattle.refusal.specs.Refusals.{first_of as first_to_fail};
 ghost use Rattle.trellis.specs.Limits.{sections_fit, channel_check, apriori_check};
 
 use crate::PassFormat;
 use crate::values::{apriori_reply, channel_reply};
-use refusal::Reply;
+use refusal::{Reply, first_of};
 
 // N is 1 to 4,096.
 #[tactic(auto, unfolding(crate::specs::Limits::sections_fit))]
 pub fn sections_fit(sections: usize) -> bool
     ensures { result ≡ sections_fit sections }
 {
-    if sections < 1 {
-        return false;
-    }
-    sections <= 4096
-}
-
-// The sizes are small enough for products of them.
-fn sizes_fit(format: PassFormat) -> bool
-    ensures { result ≡ (leb format.states 16 && leb format.outputs 4 && sections_fit format.sections) }
-{
-    if 16 < format.states {
-        return false;
-    }
-    if 4 < format.outputs {
-        return false;
-    }
-    sections_fit(format.sections)
-}
-
-// The lists that have an entry for each section, by their lengths.
-fn entries_fit(
-    sections: usize,
-    apriori: usize,
-    marks: usize,
-    margins: usize,
-    extrinsics: usize,
-) -> bool
-    ensures { result ≡ (eqb apriori sections && eqb marks sections && eqb margins sections && eqb extrinsics sections) }
-{
-    if apriori != sections {
-        return false;
-    }
-    if marks != sections {
-        return false;
-    }
-    if margins != sections {
-        return false;
-    }
-    extrinsics == sections
+    (1..=4096).contains(&sections)
 }
 
 // The lists of a pass, by their lengths: each has its exact length. Sizes past their limits have none.
+#[tactic(auto, unfolding(crate::specs::Limits::sections_fit))]
 pub fn lists_fit(
     format: PassFormat,
     channel: usize,
@@ -71,26 +34,27 @@ pub fn lists_fit(
         && eqb extrinsics format.sections
         && eqb work ((format.sections + 1) * format.states)) }
 {
-    if !sizes_fit(format) {
+    let PassFormat {
+        states,
+        outputs,
+        sections,
+        ..
+    } = format;
+    // no product is made before its parts are tested
+    if 16 < states || 4 < outputs || !sections_fit(sections) {
         return false;
     }
-    let states = format.states;
-    let outputs = format.outputs;
-    let sections = format.sections;
-    if channel != outputs * sections {
-        return false;
-    }
-    if !entries_fit(sections, apriori, marks, margins, extrinsics) {
-        return false;
-    }
-    work == (sections + 1) * states
+    channel == outputs * sections
+        && apriori == sections
+        && marks == sections
+        && margins == sections
+        && extrinsics == sections
+        && work == (sections + 1) * states
 }
 
 // The values of a pass: 6 with the index of the first channel value outside its limits, then 16 with that of the first a-priori value.
 pub fn values_reply(channel: &[i16], apriori: &[i16]) -> Reply
-    ensures { result ≡ first_of (channel_check channel.now ∷ apriori_check apriori.now ∷ []) }
+    ensures { result ≡ first_to_fail (channel_check channel.now ∷ apriori_check apriori.now ∷ []) }
 {
-    let first = channel_reply(channel);
-    let second = apriori_reply(apriori);
-    refusal::first_of(first, second)
+    first_of(channel_reply(channel), apriori_reply(apriori))
 }

@@ -1,11 +1,10 @@
 -- Worked cases of request 7, frames that end otherwise: what each end makes of one pass, of a coder's start, of a frame's length and of 12, 13 and 14. One
 -- theorem, computed over the list.
 -- Assumes nothing.
-use Rattle.std.specs.Prelude.{◌≡◌, refl, List, [], ◌∷◌, map, ℕ, pos, replicate}
+use Rattle.std.specs.Prelude.{◌≡◌, refl, List, [], ◌∷◌, map, ℕ, pos, replicate, Ok, Err}
 use Rattle.std.proofs.Math.Option.{none, some}
 use Rattle.refusal.specs.declared.Refusal.TheVariants.{Length, Lists, NoPath, ForcedPosition, NoTail}
-use Rattle.refusal.specs.declared.Reply.{Reply}
-use Rattle.refusal.specs.declared.Reply.TheVariants.{Done, Refused}
+use Rattle.refusal.specs.Refusals.{Reply}
 use Rattle.trellis.specs.declared.End.{End}
 use Rattle.trellis.specs.declared.End.TheVariants.{Zero, Open, Ring}
 use Rattle.trellis.specs.Table.{Table}
@@ -19,7 +18,7 @@ one end = record { table = follower; end = end; sections = 1; values = record { 
 
 abbrev told : ℕ → ℕ → Lone.Result
 told mark margin =
-    record { reply = Done; lists = record { marks = mark ∷ []; margins = pos margin ∷ []; extrinsics = pos 0 ∷ []; work = zeros 4 } }
+    record { reply = Ok tt; lists = record { marks = mark ∷ []; margins = pos margin ∷ []; extrinsics = pos 0 ∷ []; work = zeros 4 } }
 
 -- three positions of the house code, T = 2, mask 7
 abbrev three : End → End → Frame
@@ -51,7 +50,7 @@ ends =
     ∷ coded
     (record { frame = three Open Ring; message = 1 ∷ 0 ∷ 0 ∷ [] })
     (replicate 9 77)
-    (record { reply = Refused NoTail; sent = replicate 9 77 })
+    (record { reply = Err NoTail; sent = replicate 9 77 })
     -- 2·T for each coder that ends at zero
     ∷ frame_size (three Zero Zero) 17
     ∷ frame_size (three Zero Open) 13
@@ -60,24 +59,24 @@ ends =
     ∷ coded
     (record { frame = ended_frame Open Zero 1 2 (0 ∷ []) (7 ∷ []); message = 1 ∷ [] })
     (replicate 7 77)
-    (record { reply = Done; sent = 1 ∷ 1 ∷ 1 ∷ 1 ∷ 0 ∷ 1 ∷ 1 ∷ [] })
+    (record { reply = Ok tt; sent = 1 ∷ 1 ∷ 1 ∷ 1 ∷ 0 ∷ 1 ∷ 1 ∷ [] })
     -- 12 where one coder has no path, though the other is forced; 13 where one is forced, though the other is free; and neither where both are free
-    ∷ refused (record { table = turning; first = Ring; second = Zero; bits = 1; tail = 0; pattern = 0 ∷ []; masks = 7 ∷ [] }) 4 (Refused NoPath)
-    ∷ refused (ended_frame Zero Open 1 0 (0 ∷ []) (7 ∷ [])) 8 (Refused ForcedPosition)
+    ∷ refused (record { table = turning; first = Ring; second = Zero; bits = 1; tail = 0; pattern = 0 ∷ []; masks = 7 ∷ [] }) 4 (Err NoPath)
+    ∷ refused (ended_frame Zero Open 1 0 (0 ∷ []) (7 ∷ [])) 8 (Err ForcedPosition)
     ∷ decoded
     (record { frame = ended_frame Open Open 1 0 (0 ∷ []) (7 ∷ []); received = zeros 3; iterations = 1 })
     (lent_to 1 (replicate 8 (pos 77)))
-    (record { reply = Done; lists = record { bits = 1 ∷ []; margins = zeros 1; extrinsics = zeros 1; work = zeros 8 } })
+    (record { reply = Ok tt; lists = record { bits = 1 ∷ []; margins = zeros 1; extrinsics = zeros 1; work = zeros 8 } })
     -- T and K + T keep their limits where no coder has a tail
     ∷ coded
     (record { frame = ended_frame Open Open 4096 4 [] (7 ∷ []); message = [] })
     []
-    (record { reply = Refused Length; sent = [] })
+    (record { reply = Err Length; sent = [] })
     -- the working list is sized for the longer coder: 16 entries here, and no fewer
     ∷ decoded
     (record { frame = ended_frame Open Zero 1 2 (0 ∷ []) (7 ∷ []); received = zeros 7; iterations = 1 })
     (lent_to 1 (zeros 8))
-    (record { reply = Refused Lists; lists = lent_to 1 (zeros 8) })
+    (record { reply = Err Lists; lists = lent_to 1 (zeros 8) })
     ∷ []
 
 pub ends_hold : map computed ends ≡ ends

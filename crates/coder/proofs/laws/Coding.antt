@@ -1,6 +1,6 @@
 -- The coder by the words of its sections: whether a coder has a path by its end and the words of it; and the frame sent, with its reply, by the words of both.
 -- Assumes nothing.
-use Rattle.std.specs.Prelude.{◌≡◌, ◌≢◌, Bool, true, false, not, ℕ, ◌/◌, ◌<◌}
+use Rattle.std.specs.Prelude.{Some, None, Ok, Err, ◌≡◌, ◌≢◌, Bool, true, false, not, ℕ, ◌/◌, ◌<◌}
 use Rattle.std.proofs.Math.Path.{refl, sym, ap₂}
 use Rattle.std.proofs.Common.{ap, ◌∙◌, arith, take_all}
 use mathlib.Core.List.{List}
@@ -9,7 +9,6 @@ use Rattle.std.proofs.Math.ListN.{length, take}
 use Rattle.std.proofs.lemmas.Bool.{not-true, not-false}
 use Rattle.lists.specs.Lists.{found}
 use Rattle.refusal.specs.declared.Refusal.TheVariants.{NoTail}
-use Rattle.refusal.specs.declared.Reply.TheVariants.{Done, Refused}
 use Rattle.refusal.specs.Refusals.{check, ◌then◌, first_of, after}
 use Rattle.trellis.specs.declared.End.{End}
 use Rattle.trellis.specs.declared.End.TheVariants.{Zero, Open, Ring}
@@ -17,7 +16,6 @@ use Rattle.trellis.specs.laws.Branches.{shaped_is}
 use Rattle.trellis.specs.Table.{Table, table_of}
 use Rattle.trellis.specs.Path.{TrellisPath, finish}
 use Rattle.trellis.specs.Best.{IsBits}
-use Rattle.coder.specs.declared.tail.Tail.TheVariants.{Nothing, Inputs}
 use Rattle.frame.specs.Interleaver.{interleave}
 use Rattle.frame.proofs.laws.Interleaving.{permuting}
 use Rattle.frame.specs.Frame.{Frame, tail1, tail2, sections1, sections2, flags, puncture}
@@ -36,13 +34,13 @@ use Rattle.coder.specs.laws.Coding.{coded_words, Coded, coded}
 
 -- from state 0 to state 0
 module _ {next words xs : List ℕ} {s n : ℕ} {front : List ℕ} (walked : Walked next words 0 xs s front) where
-  pub coded_none : {out : List ℕ} → IsTail next s n Nothing → Coded next words Zero n xs false out
+  pub coded_none : {out : List ℕ} → IsTail next s n None → Coded next words Zero n xs false out
   unfolding coded_words coded_path
   coded_none tail = record {
     is = λ outputs. let states = length next / 2 in rw (← walked.ends states outputs, ← tail.is (table_of states outputs next words) refl);
   }
 
-  pub coded_some : {b : ℕ} {out : List ℕ} → IsTail next s n (Inputs b) →
+  pub coded_some : {b : ℕ} {out : List ℕ} → IsTail next s n (Some b) →
       Continued next words s (bits_of n b) (length xs) front out → Coded next words Zero n xs true out
   unfolding coded_words coded_path
   coded_some {b} {out} tail more = record { is = λ outputs. whole (length next / 2) outputs (walked.ends _ outputs) (walked.front _ outputs) }
@@ -56,7 +54,7 @@ module _ {next words xs : List ℕ} {s n : ℕ} {front : List ℕ} (walked : Wal
           rw (← e, ← tail.is t refl) (ap {B = Option (List ℕ)} some all)
 
 -- words of all of a list
-all_words : {next words xs out : List ℕ} {a s : ℕ} → Walked next words a xs s out → length out ≡ length xs → (states outputs : ℕ) →
+pub all_words : {next words xs out : List ℕ} {a s : ℕ} → Walked next words a xs s out → length out ≡ length xs → (states outputs : ℕ) →
     words_along (table_of states outputs next words) a xs ≡ out
 all_words {xs = xs} {out = out} walked e states outputs = sym (walked.front states outputs) ∙ take_all (length xs) out (omega arith)
 
@@ -136,10 +134,10 @@ module _ (f : Frame) (message : List ℕ) where
 -- ---- the reply, and what it leaves of the list
 
 module _ (c : EncodeCall) (sent : List ℕ) where
-  pub settled_none : sent_for c.frame c.message ≡ none → encode_result_of (Refused NoTail) sent ≡ coded c sent
+  pub settled_none : sent_for c.frame c.message ≡ none → encode_result_of (Err NoTail) sent ≡ coded c sent
   unfolding encode_settled encode_path_checks first_of check ◌then◌ after found
   settled_none e = rw e
 
-  pub settled_some : {frame : List ℕ} → sent_for c.frame c.message ≡ some frame → encode_result_of Done frame ≡ coded c sent
+  pub settled_some : {frame : List ℕ} → sent_for c.frame c.message ≡ some frame → encode_result_of (Ok tt) frame ≡ coded c sent
   unfolding encode_settled encode_path_checks first_of check ◌then◌ after found
   settled_some e = rw e

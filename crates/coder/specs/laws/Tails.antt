@@ -1,6 +1,6 @@
 -- The tail search by its first input: the first tail with a 0 in front where there is one, and else the first with a 1.
 -- Assumes nothing.
-use Rattle.std.specs.Prelude.{◌≡◌, ℕ, suc, ◌+◌, ◌-◌, ◌*◌, ◌/◌, ◌%◌, ◌≤◌, ◌<◌, get_or}
+use Rattle.std.specs.Prelude.{Some, None, ◌≡◌, ℕ, suc, ◌+◌, ◌-◌, ◌*◌, ◌/◌, ◌%◌, ◌≤◌, ◌<◌, get_or}
 use Rattle.std.proofs.Math.Path.{refl, sym, ap}
 use Rattle.std.proofs.Common.{ap₂, ◌∙◌, pow-suc, arith, lit<, pow_mono, eq-eqb, ne_eqb}
 use mathlib.Core.List.{List, [], ◌∷◌, ◌++◌, map, head?}
@@ -11,11 +11,9 @@ use Rattle.lists.specs.Lists.{keep}
 use Rattle.lists.specs.laws.Keep.{keep_append, keep_map}
 use Rattle.trellis.specs.Table.{Table, next_state}
 use Rattle.trellis.specs.Path.{finish, all_bits, terminating}
-use Rattle.coder.specs.declared.tail.Tail.{Tail}
-use Rattle.coder.specs.declared.tail.Tail.TheVariants.{Nothing, Inputs}
 use Rattle.coder.specs.Coder.{tail_from}
 use Rattle.coder.specs.laws.Leading.{Leads}
-use Rattle.coder.specs.laws.Sections.{bits_of, inputs_of, prefixed, Short}
+use Rattle.coder.specs.laws.Sections.{Tail, bits_of, inputs_of, prefixed, Short}
 
 -- ---- the definition, one input at a time
 
@@ -45,11 +43,11 @@ pub record IsTail (next : List ℕ) (s n : ℕ) (r : Tail) : Type 0 where
   pub short : Short n r
   pub is : (t : Table) → t.next ≡ next → inputs_of n r ≡ tail_from t s n
 
-pub tail_boundary : (next : List ℕ) (s left : ℕ) → left ≡ 0 → s ≡ 0 → IsTail next s left (Inputs 0)
+pub tail_boundary : (next : List ℕ) (s left : ℕ) → left ≡ 0 → s ≡ 0 → IsTail next s left (Some 0)
 unfolding tail_from terminating keep all_bits finish bits_of
 tail_boundary next s left h e = rw h (record { short = lit< tt; is = λ t q. rw (eq-eqb s 0 e) })
 
-pub tail_away : (next : List ℕ) (s left : ℕ) → left ≡ 0 → (s ≡ 0 → ⊥) → IsTail next s left Nothing
+pub tail_away : (next : List ℕ) (s left : ℕ) → left ≡ 0 → (s ≡ 0 → ⊥) → IsTail next s left None
 unfolding tail_from terminating keep all_bits finish
 tail_away next s left h e = rw h (record { short = tt; is = λ t q. rw (ne_eqb s 0 e) })
 
@@ -66,30 +64,30 @@ module _ (next : List ℕ) (s n : ℕ) where
   on b = get_or next (2 * s + b) 0
 
   prefixed_inputs : (b : ℕ) (r : Tail) → b < 2 → inputs_of (suc n) (prefixed b r) ≡ Option.map (λ p. b ∷ p) (inputs_of n r)
-  prefixed_inputs b Nothing h = refl
-  prefixed_inputs b (Inputs m) h = ap {B = Option (List ℕ)} some (bits_prefixed n m b h)
+  prefixed_inputs b None h = refl
+  prefixed_inputs b (Some m) h = ap {B = Option (List ℕ)} some (bits_prefixed n m b h)
 
   prefixed_short : (b : ℕ) (r : Tail) → b < 2 → Short n r → Short (suc n) (prefixed b r)
-  prefixed_short b Nothing h k = tt
-  prefixed_short b (Inputs m) h k = omega (arith, pow-suc 2 n)
+  prefixed_short b None h k = tt
+  prefixed_short b (Some m) h k = omega (arith, pow-suc 2 n)
 
   -- the branch of bit b has the tail r
   after : (b : ℕ) (r : Tail) → IsTail next (on b) n r → (t : Table) → t.next ≡ next → tail_from t (next_state t s b) n ≡ inputs_of n r
   unfolding next_state on
   after b r w t e = ap (λ (l : List ℕ). tail_from t (get_or l (2 * s + b) 0) n) e ∙ sym (w.is t e)
 
-  low : (m : ℕ) → IsTail next (on 0) n (Inputs m) → IsTail next s (suc n) (prefixed 0 (Inputs m))
+  low : (m : ℕ) → IsTail next (on 0) n (Some m) → IsTail next s (suc n) (prefixed 0 (Some m))
   unfolding or_else
   low m w = record {
-    short = prefixed_short 0 (Inputs m) (lit< tt) w.short;
-    is = λ t e. prefixed_inputs 0 (Inputs m) (lit< tt) ∙ sym (tail_suc t s n ∙ rw (after 0 (Inputs m) w t e));
+    short = prefixed_short 0 (Some m) (lit< tt) w.short;
+    is = λ t e. prefixed_inputs 0 (Some m) (lit< tt) ∙ sym (tail_suc t s n ∙ rw (after 0 (Some m) w t e));
   }
 
-  high : (r : Tail) → IsTail next (on 0) n Nothing → IsTail next (on 1) n r → IsTail next s (suc n) (prefixed 1 r)
+  high : (r : Tail) → IsTail next (on 0) n None → IsTail next (on 1) n r → IsTail next s (suc n) (prefixed 1 r)
   unfolding or_else
   high r w v = record {
     short = prefixed_short 1 r (lit< tt) v.short;
-    is = λ t e. prefixed_inputs 1 r (lit< tt) ∙ sym (tail_suc t s n ∙ rw (after 0 Nothing w t e, after 1 r v t e));
+    is = λ t e. prefixed_inputs 1 r (lit< tt) ∙ sym (tail_suc t s n ∙ rw (after 0 None w t e, after 1 r v t e));
   }
 
 -- ---- the search, as it counts the sections left
@@ -98,18 +96,18 @@ module _ {next : List ℕ} {z : ℕ} {first : Tail} (s left : ℕ) (some_left : 
   one_less : left ≡ suc (left - 1)
   one_less = omega (arith, some_left)
 
-  pub tail_low : {m : ℕ} {r : Tail} → first ≡ Inputs m → r ≡ prefixed 0 first → IsTail next s left r
+  pub tail_low : {m : ℕ} {r : Tail} → first ≡ Some m → r ≡ prefixed 0 first → IsTail next s left r
   unfolding on
   tail_low {m} e f = rw (one_less, f, e) (low next s (left - 1) m (rw (zero-leads, e) at w))
 
-  pub tail_high : {o : ℕ} {second r : Tail} → first ≡ Nothing → o ≡ get_or next (2 * s + 1) 0 → IsTail next o (left - 1) second → r ≡ prefixed 1 second → IsTail next s left r
+  pub tail_high : {o : ℕ} {second r : Tail} → first ≡ None → o ≡ get_or next (2 * s + 1) 0 → IsTail next o (left - 1) second → r ≡ prefixed 1 second → IsTail next s left r
   unfolding on
   tail_high {o} {second} e g v f = rw (one_less, f) (high next s (left - 1) second (rw (zero-leads, e) at w) (rw g at v))
 
 -- a tail of at most three inputs
 pub short_three : (n : ℕ) (r : Tail) → n ≤ 3 → Short n r → Short 3 r
-short_three n Nothing h k = tt
-short_three n (Inputs m) h k = omega (arith, pow_mono h)
+short_three n None h k = tt
+short_three n (Some m) h k = omega (arith, pow_mono h)
 
 -- a branch leads on among the states
 pub leads_on : {next : List ℕ} {s r : ℕ} (b : ℕ) → b < 2 → Leads next s → r ≡ get_or next (2 * s + b) 0 → Leads next r

@@ -1,14 +1,12 @@
 -- After all passes: 12 where there is no path, 13 where a message position is forced, and else the lists of the last pass 2 in message order.
 -- Assumes nothing.
-use Rattle.std.specs.Prelude.{◌≡◌, Bool, true, false, not, ◌&&◌, ◌||◌, List, map, ℕ, ◌-◌, eqb, ℤ, pos, length, take}
+use Rattle.std.specs.Prelude.{◌≡◌, Bool, true, false, not, ◌&&◌, ◌||◌, List, map, ℕ, ◌-◌, eqb, ℤ, pos, length, take, Ok, Err}
 use Rattle.std.proofs.Math.Path.{refl, sym, ap}
 use Rattle.std.proofs.Common.{◌∙◌, arith}
 use Rattle.lists.specs.Lists.{every, any, upto}
 use Rattle.refusal.specs.declared.Refusal.{Refusal}
 use Rattle.refusal.specs.declared.Refusal.TheVariants.{ForcedPosition}
-use Rattle.refusal.specs.declared.Reply.{Reply}
-use Rattle.refusal.specs.declared.Reply.TheVariants.{Done, Refused}
-use Rattle.refusal.specs.Refusals.{check, first_of, after}
+use Rattle.refusal.specs.Refusals.{Reply, check, first_of, after}
 use Rattle.refusal.specs.laws.Checks.{done_then, refused_then, done_after}
 use Rattle.frame.specs.declared.FrameFormat.{FrameFormat}
 use Rattle.trellis.specs.Outcome.{forced}
@@ -31,7 +29,7 @@ module _ {format : FrameFormat} {next words pattern : List ℕ} {channel1 channe
     {marks1 marks2 : List ℕ} {margins2 extrinsics2 work : List ℤ}
     (ended : Ended format next words pattern channel1 channel2 a iterations q marks1 marks2 margins2 extrinsics2 work) where
   -- 12: nothing is written
-  pub finished_early : {x : Refusal} (bits : List ℕ) (margins extrinsics : List ℤ) → q ≡ Refused x →
+  pub finished_early : {x : Refusal} (bits : List ℕ) (margins extrinsics : List ℤ) → q ≡ Err x →
       Finished format next words pattern channel1 channel2 a iterations q bits bits margins margins extrinsics extrinsics work
   unfolding after decode_path_checks first_of both_walked sections1 sections2 tail1 tail2
   finished_early bits margins extrinsics e = record {
@@ -43,7 +41,7 @@ module _ {format : FrameFormat} {next words pattern : List ℕ} {channel1 channe
   }
 
   -- a path: 13, or the lists
-  pub finished_late : {r : Reply} {bits bits' : List ℕ} {margins margins' extrinsics extrinsics' : List ℤ} → q ≡ Done →
+  pub finished_late : {r : Reply} {bits bits' : List ℕ} {margins margins' extrinsics extrinsics' : List ℤ} → q ≡ Ok tt →
       r ≡ check (every (λ m. eqb m 2) (take (length pattern) marks1) && every (λ m. eqb m 2) (take (length pattern) marks2)) ForcedPosition →
       bits' ≡ after r (deinterleave 0 pattern (map decided (take (length pattern) margins2))) bits →
       margins' ≡ after r (deinterleave (pos 0) pattern (take (length pattern) margins2)) margins →

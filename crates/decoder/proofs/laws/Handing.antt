@@ -1,6 +1,6 @@
 -- The steps of an iteration: what is handed over is within its limits and is what the definition hands over, so that one pass follows the other.
 -- Assumes nothing.
-use Rattle.std.specs.Prelude.{◌≡◌, refl, Bool, true, false, not, ◌||◌, ℕ, zero, suc, ◌+◌, ◌-◌, ◌<◌, ◌≤◌, ℤ, pos, get_or, replicate, leb, eqb}
+use Rattle.std.specs.Prelude.{◌≡◌, refl, Bool, true, false, not, ◌||◌, ℕ, zero, suc, ◌+◌, ◌-◌, ◌<◌, ◌≤◌, ℤ, pos, get_or, replicate, leb, eqb, Ok, Err}
 use Rattle.std.proofs.Math.Path.{sym, ap, ap₂}
 use Rattle.std.proofs.Common.{◌∙◌, zero-add, suc-add, arith, length-append, length-take-le, leb-true}
 use mathlib.Core.List.{List, [], ◌∷◌, ◌++◌, map}
@@ -12,9 +12,7 @@ use Rattle.lists.specs.laws.Lending.{front_replicate}
 use Rattle.lists.specs.laws.Tests.{and_right}
 use Rattle.refusal.specs.declared.Refusal.{Refusal}
 use Rattle.refusal.specs.declared.Refusal.TheVariants.{NoPath}
-use Rattle.refusal.specs.declared.Reply.{Reply}
-use Rattle.refusal.specs.declared.Reply.TheVariants.{Done, Refused}
-use Rattle.refusal.specs.Refusals.{check}
+use Rattle.refusal.specs.Refusals.{Reply, check}
 use Rattle.refusal.specs.laws.Checks.{refused_is_not_done}
 use Rattle.integers.specs.Integers.{inside}
 use Rattle.integers.specs.laws.Laws.{inside_is}
@@ -281,12 +279,12 @@ pub passed_at : {next words : List ℕ} {end : End} (t : ℕ) (pattern : List �
 passed_at t pattern k e h = rw e at h
 
 -- 12 in either pass is 12
-pub first_refuses : (p q : Bool) {r : Reply} {x : Refusal} → r ≡ check (not p) NoPath → r ≡ Refused x → r ≡ check (not (p || q)) NoPath
+pub first_refuses : (p q : Bool) {r : Reply} {x : Refusal} → r ≡ check (not p) NoPath → r ≡ Err x → r ≡ check (not (p || q)) NoPath
 unfolding check
 first_refuses true q e f = e
 first_refuses false q e f = absurd (refused_is_not_done (sym f ∙ e))
 
-pub both_pass : (p q : Bool) {r s : Reply} → r ≡ check (not p) NoPath → r ≡ Done → s ≡ check (not q) NoPath → s ≡ check (not (p || q)) NoPath
+pub both_pass : (p q : Bool) {r s : Reply} → r ≡ check (not p) NoPath → r ≡ Ok tt → s ≡ check (not q) NoPath → s ≡ check (not (p || q)) NoPath
 unfolding check
 both_pass true q e d f = absurd (refused_is_not_done (sym e ∙ d))
 both_pass false q e d f = f

@@ -1,6 +1,6 @@
 -- All iterations: what holds after each, and what the last leaves.
 -- Assumes nothing.
-use Rattle.std.specs.Prelude.{◌≡◌, refl, List, ◌++◌, map, ℤ, pos, take}
+use Rattle.std.specs.Prelude.{◌≡◌, refl, List, ◌++◌, map, ℤ, pos, take, Ok}
 use Rattle.std.proofs.Math.Path.{sym, ap}
 use Rattle.std.proofs.Common.{◌∙◌, take_at}
 use Prim.Native.Nat.{ℕ, zero, suc, ◌+◌, ◌-◌, ◌<◌, ◌≤◌}
@@ -11,8 +11,7 @@ use Rattle.std.proofs.lemmas.List.{replicate-append-replicate}
 use Rattle.integers.specs.Integers.{inside}
 use Rattle.lists.specs.laws.Every.{every_replicate}
 use Rattle.lists.specs.laws.Lending.{front_replicate}
-use Rattle.refusal.specs.declared.Reply.{Reply}
-use Rattle.refusal.specs.declared.Reply.TheVariants.{Done}
+use Rattle.refusal.specs.Refusals.{Reply}
 use Rattle.frame.specs.declared.FrameFormat.{FrameFormat}
 use Rattle.trellis.specs.Limits.{apriori_limit, apriori_fits}
 use Rattle.frame.specs.laws.Interleaving.{Permutes}
@@ -87,7 +86,7 @@ module _ {format : FrameFormat} {next words pattern : List ℕ} {channel1 channe
           small = rw front_is p.small;
         }
 
-    pub running_more : {r : Reply} {apriori' : List ℤ} {marks1' marks2' : List ℕ} {margins' extrinsics' work' : List ℤ} → r ≡ Done →
+    pub running_more : {r : Reply} {apriori' : List ℤ} {marks1' marks2' : List ℕ} {margins' extrinsics' work' : List ℤ} → r ≡ Ok tt →
         Iterated format next words pattern channel1 channel2 (take (length pattern) apriori) r apriori' marks1' marks2' margins' extrinsics' work' →
         Running format next words pattern channel1 channel2 a (i + 1) apriori' marks1' marks2' margins' extrinsics' work'
     unfolding prior_after
@@ -102,14 +101,14 @@ module _ {format : FrameFormat} {next words pattern : List ℕ} {channel1 channe
         here = record { free = it.free done; said = it.said done }
 
   -- the first that has no path ends it
-  pub ended_early : {iterations : ℕ} {b : List ℤ} {r : Reply} {apriori : List ℤ} {marks1 marks2 : List ℕ} {margins extrinsics work : List ℤ} → (r ≡ Done → ⊥) →
+  pub ended_early : {iterations : ℕ} {b : List ℤ} {r : Reply} {apriori : List ℤ} {marks1 marks2 : List ℕ} {margins extrinsics work : List ℤ} → (r ≡ Ok tt → ⊥) →
       Iterated format next words pattern channel1 channel2 b r apriori marks1 marks2 margins extrinsics work →
       Ended format next words pattern channel1 channel2 a iterations r marks1 marks2 margins extrinsics work
   ended_early not_done it = record { reply = it.reply; says = λ d. absurd (not_done d); clear = it.clear }
 
   pub ended_late : {iterations i : ℕ} {apriori : List ℤ} {marks1 marks2 : List ℕ} {margins extrinsics work : List ℤ} → 0 < iterations → i ≡ iterations →
       Running format next words pattern channel1 channel2 a i apriori marks1 marks2 margins extrinsics work →
-      Ended format next words pattern channel1 channel2 a iterations Done marks1 marks2 margins extrinsics work
+      Ended format next words pattern channel1 channel2 a iterations (Ok tt) marks1 marks2 margins extrinsics work
   ended_late {iterations} {i} some all running =
       let h : 0 < i = omega arith in
       record {

@@ -1,11 +1,10 @@
 -- What is known of a call of the frame decoder that its checks accept, and of one that has a path and no forced message position.
 -- Assumes nothing.
-use Rattle.std.specs.Prelude.{◌≡◌, refl, Bool, true, false, not, ◌||◌, ℕ, ◌+◌, ◌*◌, ◌≤◌, ◌<◌, length}
+use Rattle.std.specs.Prelude.{◌≡◌, refl, Bool, true, false, not, ◌||◌, ℕ, ◌+◌, ◌*◌, ◌≤◌, ◌<◌, length, Ok}
 use Rattle.std.proofs.lemmas.Bool.{false≢true}
 use Rattle.std.proofs.Common.{add-zero, eqb-true, leb-true}
 use Rattle.lists.specs.laws.Every.{none_upto_at}
 use Rattle.lists.specs.laws.Tests.{and_both}
-use Rattle.refusal.specs.declared.Reply.TheVariants.{Done}
 use Rattle.refusal.specs.Refusals.{first_of}
 use Rattle.refusal.specs.laws.InTurn.{both_done, Each, each_holds, each_done}
 use Rattle.trellis.specs.declared.End.TheVariants.{Zero, Open}
@@ -35,7 +34,7 @@ pub record Walkable (f : Frame) : Type 0 where
   pub free1 : (k : ℕ) → k < f.bits → forced f.table f.first (sections1 f) k ≡ false
   pub free2 : (k : ℕ) → k < f.bits → forced f.table f.second (sections2 f) k ≡ false
 
-pub decodable : (c : DecodeCall) (l : DecodeLent) → first_of (decode_lent_checks c l) ≡ Done → Decodable c l
+pub decodable : (c : DecodeCall) (l : DecodeLent) → first_of (decode_lent_checks c l) ≡ Ok tt → Decodable c l
 unfolding decode_lent_checks table_checks Each decode_lists_fit
 decodable c l e =
     let (shape, (branches, (sizes, (lists, (values, (permutes, (masks, (iterations, (codes, end))))))))) = each_holds (decode_lent_checks c l) e in
@@ -71,7 +70,7 @@ neither true d e = absurd (false≢true e)
 neither false true e = absurd (false≢true e)
 neither false false e = (refl, refl)
 
-pub walkable : (f : Frame) → first_of (decode_path_checks f) ≡ Done → Walkable f
+pub walkable : (f : Frame) → first_of (decode_path_checks f) ≡ Ok tt → Walkable f
 unfolding decode_path_checks Each both_walked both_free
 walkable f e =
     let (walked, (free, end)) = each_holds (decode_path_checks f) e in
@@ -85,7 +84,7 @@ walkable f e =
     }
 
 -- a frame with two zero ends over a table that leads back in its tail sections has a path, and none of its message positions is forced
-pub walked_back : (f : Frame) → f.first ≡ Zero → f.second ≡ Zero → LeadsBack f.table f.tail → first_of (decode_path_checks f) ≡ Done
+pub walked_back : (f : Frame) → f.first ≡ Zero → f.second ≡ Zero → LeadsBack f.table f.tail → first_of (decode_path_checks f) ≡ Ok tt
 unfolding decode_path_checks Each both_walked both_free sections1 sections2 tail1 tail2 tail_of
 walked_back f e1 e2 w =
     let path = back_has_path f.table f.tail w f.bits in
@@ -93,7 +92,7 @@ walked_back f e1 e2 w =
     each_done (decode_path_checks f) (rw (e1, e2, path), (rw (e1, e2, free), tt))
 
 -- so it is with two open ends, over any table
-pub walked_open : (f : Frame) → f.first ≡ Open → f.second ≡ Open → 0 < f.table.states → first_of (decode_path_checks f) ≡ Done
+pub walked_open : (f : Frame) → f.first ≡ Open → f.second ≡ Open → 0 < f.table.states → first_of (decode_path_checks f) ≡ Ok tt
 unfolding decode_path_checks Each both_walked both_free sections1 sections2 tail1 tail2 tail_of
 walked_open f e1 e2 some_state =
     let path = open_has_path f.table some_state f.bits in
@@ -101,7 +100,7 @@ walked_open f e1 e2 some_state =
     each_done (decode_path_checks f) (rw (e1, e2, add-zero f.bits, path), (rw (e1, e2, add-zero f.bits, free), tt))
 
 -- a call that is done is both
-pub done_is : (c : DecodeCall) (l : DecodeLent) → first_of (decode_checks c l) ≡ Done → Decodable c l × Walkable c.frame
+pub done_is : (c : DecodeCall) (l : DecodeLent) → first_of (decode_checks c l) ≡ Ok tt → Decodable c l × Walkable c.frame
 unfolding decode_checks
 done_is c l e =
     let (checked, walked) = both_done (decode_lent_checks c l) (decode_path_checks c.frame) e in

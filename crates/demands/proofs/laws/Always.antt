@@ -1,11 +1,9 @@
 -- A call whose paths are there whenever its checks pass is refused by the checks alone: the frame decoder's never by 12 or 13, the coder's never by 14.
 -- Assumes nothing.
-use Rattle.std.specs.Prelude.{◌≡◌, refl, true, List, ◌++◌, ℕ}
+use Rattle.std.specs.Prelude.{◌≡◌, refl, true, List, ◌++◌, ℕ, Ok, Err}
 use Rattle.std.proofs.Common.{sym, ◌∙◌, arith}
 use Rattle.lists.specs.Lists.{every, found}
-use Rattle.refusal.specs.declared.Reply.{Reply}
-use Rattle.refusal.specs.declared.Reply.TheVariants.{Done, Refused}
-use Rattle.refusal.specs.Refusals.{told, Check, first_of}
+use Rattle.refusal.specs.Refusals.{Reply, told, Check, first_of}
 use Rattle.refusal.specs.laws.InTurn.{first_passes, first_refuses, Each, each_done, first_gives}
 use Rattle.refusal.specs.laws.Kept.{other, never_told, early_never}
 use Rattle.trellis.specs.Table.{table_checks}
@@ -15,16 +13,16 @@ use Rattle.decoder.specs.laws.Settled.{checked_early}
 use Rattle.demands.specs.Codes.{AlwaysCodes, AlwaysDecodes}
 
 -- checks that are done wherever those before them are
-never_later : (xs ys : List Check) → (first_of xs ≡ Done → first_of ys ≡ Done) → first_of (xs ++ ys) ≡ first_of xs
+never_later : (xs ys : List Check) → (first_of xs ≡ Ok tt → first_of ys ≡ Ok tt) → first_of (xs ++ ys) ≡ first_of xs
 never_later xs ys h = go (first_of xs) refl
   where
     go : (r : Reply) → first_of xs ≡ r → first_of (xs ++ ys) ≡ first_of xs
-    go Done e = first_passes xs ys e ∙ h e ∙ sym e
-    go (Refused r) e = first_refuses xs ys e ∙ sym e
+    go (Ok tt) e = first_passes xs ys e ∙ h e ∙ sym e
+    go (Err r) e = first_refuses xs ys e ∙ sym e
 
 -- ---- the frame decoder
 
-module _ (c : DecodeCall) (l : DecodeLent) (walks : first_of (decode_lent_checks c l) ≡ Done → first_of (decode_path_checks c.frame) ≡ Done) where
+module _ (c : DecodeCall) (l : DecodeLent) (walks : first_of (decode_lent_checks c l) ≡ Ok tt → first_of (decode_path_checks c.frame) ≡ Ok tt) where
   decode_checked : (decode c l).reply ≡ first_of (decode_lent_checks c l)
   unfolding decode decode_settled decode_checks
   decode_checked = never_later (decode_lent_checks c l) (decode_path_checks c.frame) walks
@@ -36,7 +34,7 @@ module _ (c : DecodeCall) (l : DecodeLent) (walks : first_of (decode_lent_checks
 
 -- ---- the coder
 
-module _ (c : EncodeCall) (sent : List ℕ) (has : first_of (encode_lent_checks c sent) ≡ Done → found (sent_for c.frame c.message) ≡ true) where
+module _ (c : EncodeCall) (sent : List ℕ) (has : first_of (encode_lent_checks c sent) ≡ Ok tt → found (sent_for c.frame c.message) ≡ true) where
   encode_checked : (encode c sent).reply ≡ first_of (encode_lent_checks c sent)
   unfolding encode encode_settled encode_checks encode_path_checks Each
   encode_checked = never_later (encode_lent_checks c sent) (encode_path_checks c) (λ passed. each_done (encode_path_checks c) (has passed, tt))

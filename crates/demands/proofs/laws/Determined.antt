@@ -1,13 +1,11 @@
 -- Demand 3's statement for the frame decoder leaves nothing open: a call's passes are determined by it, and so are the reply and every list.
 -- Assumes nothing.
-use Rattle.std.specs.Prelude.{◌≡◌, ◌↔◌, List, ℕ, zero, suc, ◌-◌, ◌<◌, ℤ, pos, length, get_or}
+use Rattle.std.specs.Prelude.{◌≡◌, ◌↔◌, List, ℕ, zero, suc, ◌-◌, ◌<◌, ℤ, pos, length, get_or, Ok, Err}
 use Rattle.std.proofs.Math.Path.{sym}
 use Rattle.std.proofs.Common.{ap, ◌∙◌, ⊎_elim, arith, ext_get_or}
 use Rattle.std.proofs.Math.Decide.{dec_lt}
 use Rattle.refusal.specs.declared.Refusal.{Refusal}
-use Rattle.refusal.specs.declared.Reply.{Reply}
-use Rattle.refusal.specs.declared.Reply.TheVariants.{Done, Refused}
-use Rattle.refusal.specs.Refusals.{first_of}
+use Rattle.refusal.specs.Refusals.{Reply, first_of}
 use Rattle.refusal.specs.laws.Checks.{refused_is_not_done}
 use Rattle.trellis.specs.declared.End.{End}
 use Rattle.trellis.specs.Path.{apriori_at}
@@ -115,13 +113,13 @@ module _ (f : Frame) (w : Permutes f.bits f.pattern) where
 -- ---- the whole call
 
 module _ (c : DecodeCall) (l : DecodeLent) (known : Decodable c l) (x y : DecodeResult) (one : IsDecoding c l x) (other : IsDecoding c l y) where
-  both_kept : (x.reply ≡ Done → ⊥) → (y.reply ≡ Done → ⊥) → FrameListsKept x.lists y.lists
+  both_kept : (x.reply ≡ Ok tt → ⊥) → (y.reply ≡ Ok tt → ⊥) → FrameListsKept x.lists y.lists
   both_kept h g =
       let mine = one.kept h in
       let yours = other.kept g in
       record { bits = yours.bits ∙ sym mine.bits; margins = yours.margins ∙ sym mine.margins; extrinsics = yours.extrinsics ∙ sym mine.extrinsics }
 
-  both_written : x.reply ≡ Done → y.reply ≡ Done → FrameListsKept x.lists y.lists
+  both_written : x.reply ≡ Ok tt → y.reply ≡ Ok tt → FrameListsKept x.lists y.lists
   both_written e f =
       let w = (checked c.frame known.framed).permutes in
       let same = same_passes c.frame w _ c.iterations _ _ _ _ one.iterations other.iterations (c.iterations - 1)
@@ -131,7 +129,7 @@ module _ (c : DecodeCall) (l : DecodeLent) (known : Decodable c l) (x y : Decode
   same_replied : (x.reply ≡ y.reply) × FrameListsKept x.lists y.lists
   same_replied = ⊎_elim without_path (⊎_elim with_forced free) (frame_ways c.frame)
     where
-      refused : {r : Reply} {n : Refusal} → r ≡ Refused n → r ≡ Done → ⊥
+      refused : {r : Reply} {n : Refusal} → r ≡ Err n → r ≡ Ok tt → ⊥
       refused e f = refused_is_not_done (sym e ∙ f)
 
       without_path : (BothPaths c.frame → ⊥) → (x.reply ≡ y.reply) × FrameListsKept x.lists y.lists
@@ -162,7 +160,7 @@ module _ (c : DecodeCall) (l : DecodeLent) (known : Decodable c l) (x y : Decode
       }
 
 -- of a call to which no number but 12 or 13 applies, the decoder's result is the only one that the statement allows
-pub decoding_exactly : (c : DecodeCall) (l : DecodeLent) → first_of (decode_lent_checks c l) ≡ Done → (x : DecodeResult) → IsDecoding c l x ↔ (x ≡ decode c l)
+pub decoding_exactly : (c : DecodeCall) (l : DecodeLent) → first_of (decode_lent_checks c l) ≡ Ok tt → (x : DecodeResult) → IsDecoding c l x ↔ (x ≡ decode c l)
 decoding_exactly c l passed x =
     let is = every_decoding_means c l passed in
     (λ h. same_result c l (decodable c l passed) x (decode c l) h is, λ e. rw e is)

@@ -1,10 +1,8 @@
 -- Demand 1, the proof: every call of every entry is answered by the first of its checks that fails, and leaves its lists as the statement says.
 -- Assumes nothing.
-use Rattle.std.specs.Prelude.{◌≡◌, refl, List, [], ℕ, Float, ℤ, pos, length, replicate}
+use Rattle.std.specs.Prelude.{◌≡◌, refl, List, [], ℕ, Float, ℤ, pos, length, replicate, Ok, Err}
 use Rattle.std.proofs.Common.{inl, inr, ⊎_elim, ne_eqb}
-use Rattle.refusal.specs.declared.Reply.{Reply}
-use Rattle.refusal.specs.declared.Reply.TheVariants.{Done, Refused}
-use Rattle.refusal.specs.Refusals.{told, number_of, Check, first_of, cleared}
+use Rattle.refusal.specs.Refusals.{Reply, told, number_of, Check, first_of, cleared}
 use Rattle.refusal.specs.laws.Checks.{refused_is_not_done}
 use Rattle.refusal.specs.laws.InTurn.{first_is_reply}
 use Rattle.refusal.specs.laws.Kept.{after_refusal}
@@ -24,16 +22,16 @@ use Rattle.demands.proofs.laws.EverySheet.{every_sheet_is_answered}
 
 cleared_zeros : (r : Reply) (work : List ℤ) → Clears r → cleared r work ≡ replicate (length work) (pos 0)
 unfolding cleared number_of
-cleared_zeros Done work h = refl
-cleared_zeros (Refused r) work h = ⊎_elim (λ e. absurd (refused_is_not_done e)) (⊎_elim (λ e. rw e refl) (λ e. rw e refl)) h
+cleared_zeros (Ok tt) work h = refl
+cleared_zeros (Err r) work h = ⊎_elim (λ e. absurd (refused_is_not_done e)) (⊎_elim (λ e. rw e refl) (λ e. rw e refl)) h
 
 cleared_kept : (r : Reply) (work : List ℤ) → (Clears r → ⊥) → cleared r work ≡ work
 unfolding cleared number_of
-cleared_kept Done work h = absurd (h (inl refl))
-cleared_kept (Refused r) work h =
+cleared_kept (Ok tt) work h = absurd (h (inl refl))
+cleared_kept (Err r) work h =
     rw (ne_eqb (told r).number 12 (λ e. h (inr (inl e))), ne_eqb (told r).number 13 (λ e. h (inr (inr e)))) refl
 
-module _ {A : Type 0} {numbers : List ℕ} (cs : List Check) {lent left : A} (numbered : numbers_of cs ≡ numbers) (kept : (first_of cs ≡ Done → ⊥) → left ≡ lent) where
+module _ {A : Type 0} {numbers : List ℕ} (cs : List Check) {lent left : A} (numbered : numbers_of cs ≡ numbers) (kept : (first_of cs ≡ Ok tt → ⊥) → left ≡ lent) where
   -- an entry that has a working list, and one that has none
   called : (work : List ℤ) → IsCall numbers cs (first_of cs) lent left work (cleared (first_of cs) work)
   called work = record {

@@ -1,8 +1,7 @@
 -- Codes named by their taps, the proof: every table that the builder leaves is a code for frames with two zero ends and as many tail sections as its memory.
 -- Assumes nothing.
-use Rattle.std.specs.Prelude.{◌≡◌, true, ℕ, ◌^◌}
+use Rattle.std.specs.Prelude.{◌≡◌, true, ℕ, ◌^◌, Ok}
 use Rattle.std.proofs.Common.{arith}
-use Rattle.refusal.specs.declared.Reply.TheVariants.{Done}
 use Rattle.refusal.specs.laws.Kept.{after_done}
 use Rattle.trellis.specs.Table.{Table, table_of}
 use Rattle.taps.specs.Taps.{taps_table}
@@ -37,7 +36,7 @@ module _ (m feedback parity : ℕ) where
       }
 
 -- what the builder leaves where it is done
-module _ (c : TapsCall) (l : TapsLent) (done : (taps_built c l).reply ≡ Done) where
+module _ (c : TapsCall) (l : TapsLent) (done : (taps_built c l).reply ≡ Ok tt) where
   abbrev left : Table
   left = table_of (2 ^ c.memory) 2 (taps_built c l).lists.next (taps_built c l).lists.words
 

@@ -1,11 +1,10 @@
 -- Demand 2's statement for the coder leaves nothing open: a frame for a message is determined by it, and so are the reply and the list.
 -- Assumes nothing.
-use Rattle.std.specs.Prelude.{◌≡◌, refl, ◌↔◌, Bool, true, false, cond, List, ℕ, ◌+◌, length, get_or}
+use Rattle.std.specs.Prelude.{◌≡◌, refl, ◌↔◌, Bool, true, false, cond, List, ℕ, ◌+◌, length, get_or, Ok}
 use Rattle.std.proofs.Math.Path.{sym}
 use Rattle.std.proofs.Common.{ap, ap₂, ◌∙◌, ext_get_or}
 use Rattle.std.proofs.Math.Option.{some-injective}
 use Rattle.lists.specs.Lists.{found, count}
-use Rattle.refusal.specs.declared.Reply.TheVariants.{Done}
 use Rattle.refusal.specs.Refusals.{first_of}
 use Rattle.refusal.specs.laws.Checks.{refused_is_not_done}
 use Rattle.trellis.specs.declared.End.{End}
@@ -54,7 +53,7 @@ module _ (f : Frame) (framed : Framed f) where
 
 -- ---- the whole call
 
-module _ (c : EncodeCall) (sent : List ℕ) (passed : first_of (encode_lent_checks c sent) ≡ Done) (x y : EncodeResult)
+module _ (c : EncodeCall) (sent : List ℕ) (passed : first_of (encode_lent_checks c sent) ≡ Ok tt) (x y : EncodeResult)
     (one : IsCoding c sent x) (other : IsCoding c sent y) where
   same_replied : (x.reply ≡ y.reply) × (x.sent ≡ y.sent)
   same_replied = go (found (sent_for c.frame c.message)) (both_own_told c sent passed)
@@ -75,7 +74,7 @@ module _ (c : EncodeCall) (sent : List ℕ) (passed : first_of (encode_lent_chec
       λ i. record { reply = reply i; sent = list i }
 
 -- of a call to which no number but 14 applies, the coder's result is the only one that the statement allows
-pub coding_exactly : (c : EncodeCall) (sent : List ℕ) → first_of (encode_lent_checks c sent) ≡ Done → (x : EncodeResult) → IsCoding c sent x ↔ (x ≡ encode c sent)
+pub coding_exactly : (c : EncodeCall) (sent : List ℕ) → first_of (encode_lent_checks c sent) ≡ Ok tt → (x : EncodeResult) → IsCoding c sent x ↔ (x ≡ encode c sent)
 coding_exactly c sent passed x =
     let is = every_coding_means c sent passed in
     (λ h. same_result c sent passed x (encode c sent) h is, λ e. rw e is)

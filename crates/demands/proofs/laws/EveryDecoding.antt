@@ -1,6 +1,6 @@
 -- Demand 3 for the frame decoder, the proof: whatever is lent, a call to which no number but 12 or 13 applies is a whole decoding.
 -- Assumes nothing.
-use Rattle.std.specs.Prelude.{◌≡◌, refl, false, List, ◌++◌, map, ℤ, negsuc}
+use Rattle.std.specs.Prelude.{◌≡◌, refl, false, List, ◌++◌, map, ℤ, negsuc, Ok}
 use Rattle.std.proofs.Math.Path.{ap}
 use Rattle.std.proofs.Common.{◌∙◌, inr, length-append, get_or-append-add}
 use Rattle.std.proofs.Math.Option.{some, Option-elim}
@@ -10,7 +10,6 @@ use Rattle.std.proofs.Math.IntN.{pos}
 use Rattle.std.proofs.Math.ListN.{length, get_or, replicate, length-replicate, get_or-replicate, get_or-append, get_or-map}
 use Rattle.integers.specs.Integers.{max_ℤ, min_ℤ, limited}
 use Rattle.lists.specs.laws.Listed.{listed_at}
-use Rattle.refusal.specs.declared.Reply.TheVariants.{Done}
 use Rattle.refusal.specs.Refusals.{first_of}
 use Rattle.trellis.specs.declared.End.{End}
 use Rattle.trellis.specs.declared.Outcome.TheVariants.{Free}
@@ -170,14 +169,14 @@ module _ (c : DecodeCall) (l : DecodeLent) where
   abbrev values : List ℤ
   values = spread (pos 0) (flags c.frame) c.received
 
-  last_written : (w : Permutes c.frame.bits c.frame.pattern) → (EitherEmpty c.frame → ⊥) → (decode c l).reply ≡ Done →
+  last_written : (w : Permutes c.frame.bits c.frame.pattern) → (EitherEmpty c.frame → ⊥) → (decode c l).reply ≡ Ok tt →
       FrameListsWritten c.frame (second_pass c.frame values w (c.iterations - 1)) (decode c l).lists
   unfolding decode decode_settled
   last_written w h e =
       lists_written c.frame values w c.iterations (decode c l).lists (unforced c.frame c.frame.second (λ e. h (inr e))) (after_done e _ _) (after_done e _ _) (after_done e _ _)
 
   -- whatever is lent: a call to which no number but 12 or 13 applies is a whole decoding
-  pub every_decoding_means : first_of (decode_lent_checks c l) ≡ Done → IsDecoding c l (decode c l)
+  pub every_decoding_means : first_of (decode_lent_checks c l) ≡ Ok tt → IsDecoding c l (decode c l)
   every_decoding_means passed =
       let w = (checked c.frame (decodable c l passed).framed).permutes in
       let says = decode_says c l passed in

@@ -1,7 +1,7 @@
 -- Demand 2 for the coder, the proof: whatever is lent, a call to which no number but 14 applies is a whole coding. What is written is a frame whose
 -- places hold the bits of two paths, over the message and over the message in the pattern's order, each the path of its coder by its end.
 -- Assumes nothing.
-use Rattle.std.specs.Prelude.{◌≡◌, ◌↔◌, Bool, false, ◌&&◌, List, [], ◌∷◌, ◌++◌, ℕ, ◌+◌, length}
+use Rattle.std.specs.Prelude.{◌≡◌, ◌↔◌, Bool, false, ◌&&◌, List, [], ◌∷◌, ◌++◌, ℕ, ◌+◌, length, Ok, Err}
 use Rattle.std.proofs.Math.Path.{refl}
 use Rattle.std.proofs.Common.{sym, ◌∙◌, arith, length-append}
 use Rattle.std.proofs.Math.Bool.{true}
@@ -10,7 +10,6 @@ use Rattle.std.proofs.Math.Option.{Option, none, some, map, bind, bind-eq-some_i
 use Rattle.lists.specs.Lists.{joined, found}
 use Rattle.lists.specs.laws.Listed.{joined_length}
 use Rattle.refusal.specs.declared.Refusal.TheVariants.{NoTail}
-use Rattle.refusal.specs.declared.Reply.TheVariants.{Done, Refused}
 use Rattle.refusal.specs.Refusals.{check, ◌then◌, first_of, after}
 use Rattle.refusal.specs.laws.Checks.{refused_is_not_done}
 use Rattle.refusal.specs.laws.InTurn.{first_passes, both_done, Each, each_holds}
@@ -47,11 +46,11 @@ places_long f p q =
 
 module _ (c : EncodeCall) (sent : List ℕ) where
   -- a call that is done passed the checks, and both coders have a path
-  done_is : (encode c sent).reply ≡ Done → (first_of (encode_lent_checks c sent) ≡ Done) × (found (sent_for c.frame c.message) ≡ true)
+  done_is : (encode c sent).reply ≡ Ok tt → (first_of (encode_lent_checks c sent) ≡ Ok tt) × (found (sent_for c.frame c.message) ≡ true)
   unfolding encode encode_settled encode_checks encode_path_checks Each
   done_is e = let (x, y) = both_done (encode_lent_checks c sent) (encode_path_checks c) e in (x, (each_holds (encode_path_checks c) y).0)
 
-  frame_of_lem : (p q : TrellisPath) → first_of (encode_lent_checks c sent) ≡ Done → coded_path c.frame.table c.frame.first c.frame.tail c.message ≡ some p →
+  frame_of_lem : (p q : TrellisPath) → first_of (encode_lent_checks c sent) ≡ Ok tt → coded_path c.frame.table c.frame.first c.frame.tail c.message ≡ some p →
       coded_path c.frame.table c.frame.second c.frame.tail (interleave 0 c.frame.pattern c.message) ≡ some q →
       IsFrame c.frame c.message (puncture (flags c.frame) (places c.frame p q))
   unfolding flags frame_length
@@ -72,7 +71,7 @@ module _ (c : EncodeCall) (sent : List ℕ) where
       }
 
   -- whatever is lent: where the call is done, the list holds a frame for the message
-  pub every_frame_means : (encode c sent).reply ≡ Done → IsFrame c.frame c.message (encode c sent).sent
+  pub every_frame_means : (encode c sent).reply ≡ Ok tt → IsFrame c.frame c.message (encode c sent).sent
   unfolding found encode encode_settled after sent_for
   every_frame_means e = go (sent_for c.frame c.message) refl (done_is e).1
     where
@@ -85,7 +84,7 @@ module _ (c : EncodeCall) (sent : List ℕ) where
           rw (e, d, ← frame_is) (frame_of_lem p q (done_is e).0 first second)
 
   -- where it is not, the list is as it was
-  sent_kept : ((encode c sent).reply ≡ Done → ⊥) → (encode c sent).sent ≡ sent
+  sent_kept : ((encode c sent).reply ≡ Ok tt → ⊥) → (encode c sent).sent ≡ sent
   unfolding encode encode_settled
   sent_kept h = after_refusal h _ _
 
@@ -96,12 +95,12 @@ both_told true true t u = record { yes = λ e. (t.yes refl, u.yes refl); no = λ
 both_told true false t u = record { yes = λ e. absurd (false≢true e); no = λ e p. u.no refl p.1 }
 both_told false d t u = record { yes = λ e. absurd (false≢true e); no = λ e p. t.no refl p.0 }
 
-refusal_told : {P : Type 0} (b : Bool) → Tells b P → ((check b NoTail then Done) ≡ Refused NoTail) ↔ (P → ⊥)
+refusal_told : {P : Type 0} (b : Bool) → Tells b P → ((check b NoTail then Ok tt) ≡ Err NoTail) ↔ (P → ⊥)
 unfolding check ◌then◌
 refusal_told true t = (λ e. absurd (refused_is_not_done (sym e)), λ h. absurd (h (t.yes refl)))
 refusal_told false t = (λ e. t.no refl, λ h. refl)
 
-done_told : {P : Type 0} (b : Bool) → Tells b P → ((check b NoTail then Done) ≡ Done) ↔ P
+done_told : {P : Type 0} (b : Bool) → Tells b P → ((check b NoTail then Ok tt) ≡ Ok tt) ↔ P
 unfolding check ◌then◌
 done_told true t = (λ e. t.yes refl, λ h. refl)
 done_told false t = (λ e. absurd (refused_is_not_done e), λ h. absurd (t.no refl h))
@@ -113,7 +112,7 @@ both_found (some p) none h = refl
 both_found (some p) (some q) h = refl
 
 -- of a call to which no other number applies, whether a frame is found tells whether each coder has a path of its end with its own inputs
-pub both_own_told : (c : EncodeCall) (sent : List ℕ) → first_of (encode_lent_checks c sent) ≡ Done → Tells (found (sent_for c.frame c.message)) (BothOwnPaths c)
+pub both_own_told : (c : EncodeCall) (sent : List ℕ) → first_of (encode_lent_checks c sent) ≡ Ok tt → Tells (found (sent_for c.frame c.message)) (BothOwnPaths c)
 unfolding sent_for
 both_own_told c sent passed =
     let f = c.frame in
@@ -129,19 +128,19 @@ both_own_told c sent passed =
     (own_told f some_state other (bits_interleaved (checked f lent.framed).permutes bits) f.second))
 
 -- so 14 is given exactly where not each has
-pub every_14_means : (c : EncodeCall) (sent : List ℕ) → first_of (encode_lent_checks c sent) ≡ Done → ((encode c sent).reply ≡ Refused NoTail) ↔ (BothOwnPaths c → ⊥)
+pub every_14_means : (c : EncodeCall) (sent : List ℕ) → first_of (encode_lent_checks c sent) ≡ Ok tt → ((encode c sent).reply ≡ Err NoTail) ↔ (BothOwnPaths c → ⊥)
 unfolding encode encode_settled encode_checks encode_path_checks first_of
 every_14_means c sent passed = rw (first_passes (encode_lent_checks c sent) (encode_path_checks c) passed) (refusal_told _ (both_own_told c sent passed))
 
 -- and the call is done exactly where each has
-every_done_means : (c : EncodeCall) (sent : List ℕ) → first_of (encode_lent_checks c sent) ≡ Done → ((encode c sent).reply ≡ Done) ↔ BothOwnPaths c
+every_done_means : (c : EncodeCall) (sent : List ℕ) → first_of (encode_lent_checks c sent) ≡ Ok tt → ((encode c sent).reply ≡ Ok tt) ↔ BothOwnPaths c
 unfolding encode encode_settled encode_checks encode_path_checks first_of
 every_done_means c sent passed = rw (first_passes (encode_lent_checks c sent) (encode_path_checks c) passed) (done_told _ (both_own_told c sent passed))
 
 -- ---- the whole call
 
 -- whatever is lent: a call to which no number but 14 applies is a whole coding
-pub every_coding_means : (c : EncodeCall) (sent : List ℕ) → first_of (encode_lent_checks c sent) ≡ Done → IsCoding c sent (encode c sent)
+pub every_coding_means : (c : EncodeCall) (sent : List ℕ) → first_of (encode_lent_checks c sent) ≡ Ok tt → IsCoding c sent (encode c sent)
 every_coding_means c sent passed = record {
   no_tail_lem = every_14_means c sent passed;
   done = every_done_means c sent passed;

@@ -1,7 +1,7 @@
 -- Demand 3 for the lone decoder, the proof: whatever is lent, a call to which no number but 12 applies is a whole lone pass, and no other result
 -- would be.
 -- Assumes nothing.
-use Rattle.std.specs.Prelude.{◌≡◌, ◌↔◌, Bool, not, ℕ, ◌<◌, pos, length}
+use Rattle.std.specs.Prelude.{◌≡◌, ◌↔◌, Bool, not, ℕ, ◌<◌, pos, length, Ok, Err}
 use Rattle.std.proofs.Math.Path.{refl}
 use Rattle.std.proofs.Common.{sym, ap, ◌∙◌, arith, ext_get_or}
 use Rattle.std.proofs.Math.Bool.{true, false}
@@ -10,9 +10,7 @@ use Rattle.std.proofs.Math.Option.{Option, none, some, Option-elim}
 use Rattle.std.proofs.Math.ListN.{replicate}
 use Rattle.lists.specs.laws.Listed.{listed_length, listed_at}
 use Rattle.refusal.specs.declared.Refusal.TheVariants.{NoPath}
-use Rattle.refusal.specs.declared.Reply.{Reply}
-use Rattle.refusal.specs.declared.Reply.TheVariants.{Done, Refused}
-use Rattle.refusal.specs.Refusals.{told, check, ◌then◌, first_of, cleared}
+use Rattle.refusal.specs.Refusals.{Reply, told, check, ◌then◌, first_of, cleared}
 use Rattle.refusal.specs.laws.Checks.{refused_is_not_done, then_is_done, check_is_done}
 use Rattle.refusal.specs.laws.InTurn.{first_passes}
 use Rattle.trellis.specs.declared.Outcome.{Outcome}
@@ -29,10 +27,10 @@ use Rattle.demands.proofs.laws.Told.{Tells, path_told}
 
 -- 12 and done, where P is that there is a path
 record Says (r : Reply) (P : Type 0) : Type 0 where
-  no_path : (r ≡ Refused NoPath) ↔ (P → ⊥)
-  done : (r ≡ Done) ↔ P
+  no_path : (r ≡ Err NoPath) ↔ (P → ⊥)
+  done : (r ≡ Ok tt) ↔ P
 
-reply_says : {P : Type 0} (b : Bool) → Tells b P → Says (check b NoPath then Done) P
+reply_says : {P : Type 0} (b : Bool) → Tells b P → Says (check b NoPath then Ok tt) P
 unfolding check ◌then◌
 reply_says true t =
     let path = t.yes refl in
@@ -44,11 +42,11 @@ reply_says false t =
 module _ (c : Call) (l : Lent) where
   -- ---- the lists
 
-  lists_kept : ((decode c l).reply ≡ Done → ⊥) → LoneListsKept l (decode c l).lists
+  lists_kept : ((decode c l).reply ≡ Ok tt → ⊥) → LoneListsKept l (decode c l).lists
   unfolding decode settled
   lists_kept h = record { marks = after_refusal h _ _; margins = after_refusal h _ _; extrinsics = after_refusal h _ _ }
 
-  entry_written : (decode c l).reply ≡ Done → (k : ℕ) → k < c.sections → (o : Outcome) → outcome c.table c.values c.end c.sections k ≡ some o →
+  entry_written : (decode c l).reply ≡ Ok tt → (k : ℕ) → k < c.sections → (o : Outcome) → outcome c.table c.values c.end c.sections k ≡ some o →
       IsEntry c (decode c l).lists k
   unfolding decode settled marks margins extrinsics Option-elim
   entry_written e k h o is =
@@ -64,7 +62,7 @@ module _ (c : Call) (l : Lent) where
         extrinsic_is = rw (after_done e _ _) (listed_at _ n k _ h ∙ extrinsic_written t v end n k ∙ rw is);
       }
 
-  lists_written : pathless c.table c.end c.sections ≡ false → (decode c l).reply ≡ Done → LoneListsWritten c (decode c l).lists
+  lists_written : pathless c.table c.end c.sections ≡ false → (decode c l).reply ≡ Ok tt → LoneListsWritten c (decode c l).lists
   unfolding decode settled marks margins extrinsics
   lists_written some-path e = record {
     marks_long = rw (after_done e _ _) (listed_length _ c.sections);
@@ -79,8 +77,8 @@ module _ (c : Call) (l : Lent) where
 
   -- ---- the whole call
 
-  module _ (passed : first_of (lent_checks c l) ≡ Done) where
-    reply_is : (decode c l).reply ≡ (check (not (pathless c.table c.end c.sections)) NoPath then Done)
+  module _ (passed : first_of (lent_checks c l) ≡ Ok tt) where
+    reply_is : (decode c l).reply ≡ (check (not (pathless c.table c.end c.sections)) NoPath then Ok tt)
     unfolding decode settled checks path_checks first_of
     reply_is = first_passes (lent_checks c l) (path_checks c) passed
 
@@ -89,7 +87,7 @@ module _ (c : Call) (l : Lent) where
     unfolding decode settled checks path_checks first_of
     work_cleared = rw (first_passes (lent_checks c l) (path_checks c) passed) (go (not (pathless c.table c.end c.sections)))
       where
-        go : (b : Bool) → cleared (check b NoPath then Done) l.work ≡ replicate (length l.work) (pos 0)
+        go : (b : Bool) → cleared (check b NoPath then Ok tt) l.work ≡ replicate (length l.work) (pos 0)
         go true = unfold check ◌then◌ cleared in refl
         go false = unfold check ◌then◌ cleared told in refl
 
@@ -100,7 +98,7 @@ module _ (c : Call) (l : Lent) where
         record {
           no_path = says.no_path;
           done = says.done;
-          written = λ e. lists_written (not-true _ ((check_is_done _ NoPath).0 ((then_is_done _ Done).0 (sym reply_is ∙ e)).0)) e;
+          written = λ e. lists_written (not-true _ ((check_is_done _ NoPath).0 ((then_is_done _ (Ok tt)).0 (sym reply_is ∙ e)).0)) e;
           kept = lists_kept;
           cleared = work_cleared;
         }
@@ -108,7 +106,7 @@ module _ (c : Call) (l : Lent) where
 -- ---- the statement leaves nothing open
 
 module _ (c : Call) (l : Lent) (x y : Result) (one : IsLonePass c l x) (other : IsLonePass c l y) where
-  both_kept : (x.reply ≡ Done → ⊥) → (y.reply ≡ Done → ⊥) → LoneListsKept x.lists y.lists
+  both_kept : (x.reply ≡ Ok tt → ⊥) → (y.reply ≡ Ok tt → ⊥) → LoneListsKept x.lists y.lists
   both_kept h g =
       let mine = one.kept h in
       let yours = other.kept g in
@@ -150,7 +148,7 @@ module _ (c : Call) (l : Lent) (x y : Result) (one : IsLonePass c l x) (other : 
       }
 
 -- of a call to which no number but 12 applies, the decoder's result is the only one that the statement allows
-pub pass_exactly : (c : Call) (l : Lent) → first_of (lent_checks c l) ≡ Done → (x : Result) → IsLonePass c l x ↔ (x ≡ decode c l)
+pub pass_exactly : (c : Call) (l : Lent) → first_of (lent_checks c l) ≡ Ok tt → (x : Result) → IsLonePass c l x ↔ (x ≡ decode c l)
 pass_exactly c l passed x =
     let is = every_pass_means c l passed in
     (λ h. same_result c l x (decode c l) h is, λ e. rw e is)

@@ -1,6 +1,6 @@
 -- What a sheet is answered with, the proof: every sequence of bytes is answered as the statement says, and by nothing else.
 -- Assumes nothing.
-use Rattle.std.specs.Prelude.{◌≡◌, ◌≢◌, Bool, List, ℕ, suc, ◌+◌, length}
+use Rattle.std.specs.Prelude.{◌≡◌, ◌≢◌, Bool, List, ℕ, suc, ◌+◌, length, Ok, Err}
 use Rattle.std.proofs.Math.Path.{refl, sym, ap, subst}
 use Rattle.std.proofs.Common.{◌∙◌, arith}
 use Rattle.std.proofs.Math.Logic.{inl, inr}
@@ -11,9 +11,7 @@ use Rattle.lists.specs.Lists.{first_failing, found}
 use Rattle.lists.specs.laws.Listed.{listed_length}
 use Rattle.refusal.specs.declared.Refusal.{Refusal}
 use Rattle.refusal.specs.declared.Refusal.TheVariants.{Text, ValueInLine, Pattern}
-use Rattle.refusal.specs.declared.Reply.{Reply}
-use Rattle.refusal.specs.declared.Reply.TheVariants.{Done, Refused}
-use Rattle.refusal.specs.Refusals.{told, check, ◌then◌, first_of}
+use Rattle.refusal.specs.Refusals.{Reply, told, check, ◌then◌, first_of}
 use Rattle.refusal.specs.laws.InTurn.{first_is_reply, done_exactly, both_done, Each, each_holds, each_done}
 use Rattle.trellis.specs.Limits.{channel_fits}
 use Rattle.frame.specs.Interleaver.{permutes}
@@ -40,28 +38,28 @@ module _ (sheet : List ℕ) where
   unfolding answer
   answer_by_rules r e = ap (λ (x : Reply). printed x frame_result.lists) (reply_by_rules ∙ e)
 
-  pub answer_refused : (r : Refusal) → first_of (sheet_rules sheet) ≡ Refused r → answer sheet ≡ refusal_text r
+  pub answer_refused : (r : Refusal) → first_of (sheet_rules sheet) ≡ Err r → answer sheet ≡ refusal_text r
   unfolding printed
-  answer_refused r e = answer_by_rules (Refused r) e
+  answer_refused r e = answer_by_rules (Err r) e
 
-  pub answer_decoded : first_of (sheet_rules sheet) ≡ Done → answer sheet ≡ result_text frame_result.lists
+  pub answer_decoded : first_of (sheet_rules sheet) ≡ Ok tt → answer sheet ≡ result_text frame_result.lists
   unfolding printed
-  answer_decoded e = answer_by_rules Done e
+  answer_decoded e = answer_by_rules (Ok tt) e
 
   -- ---- decoded
 
-  module _ (unbroken : first_of (sheet_rules sheet) ≡ Done) where
-    frame_done : first_of (decode_checks (sheet_call_of sheet) (lent_for sheet)) ≡ Done
+  module _ (unbroken : first_of (sheet_rules sheet) ≡ Ok tt) where
+    frame_done : first_of (decode_checks (sheet_call_of sheet) (lent_for sheet)) ≡ Ok tt
     unfolding sheet_rules text_checks sheet_call_of Each
     frame_done =
         let (sized, (faultless, (inside, (permuted, end)))) = each_holds (sheet_rules sheet) unbroken in
         frame_reply sheet (each_done (text_checks sheet) (sized, (faultless, tt))) ∙ each_done _ (inside, (permuted, tt))
 
-    pub frame_passes : first_of (decode_lent_checks (sheet_call_of sheet) (lent_for sheet)) ≡ Done
+    pub frame_passes : first_of (decode_lent_checks (sheet_call_of sheet) (lent_for sheet)) ≡ Ok tt
     unfolding decode_checks
     frame_passes = (both_done (decode_lent_checks (sheet_call_of sheet) (lent_for sheet)) (decode_path_checks (sheet_call_of sheet).frame) frame_done).0
 
-    frame_replied : frame_result.reply ≡ Done
+    frame_replied : frame_result.reply ≡ Ok tt
     unfolding decode decode_settled
     frame_replied = frame_done
 
@@ -114,7 +112,7 @@ module _ (sheet : List ℕ) where
       go none is h = absurd (false≢true h)
       go (some i) is h = faulty_line sheet i is
 
-  refused : (r : Refusal) → first_of (sheet_rules sheet) ≡ Refused r → ((line : ℕ) → r ≡ Text line → line ≢ 0 → IsFaultyLine sheet line) →
+  refused : (r : Refusal) → first_of (sheet_rules sheet) ≡ Err r → ((line : ℕ) → r ≡ Text line → line ≢ 0 → IsFaultyLine sheet line) →
       ((line : ℕ) → r ≡ ValueInLine line → IsValueLine sheet line) → IsAnswer sheet (answer sheet)
   unfolding IsAnswer refusal_text
   refused r e faulty value =

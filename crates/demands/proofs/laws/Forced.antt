@@ -1,7 +1,7 @@
 -- 13 in the words of document 01: a pass calls a message position forced exactly where its coder has a path and a message position has an empty class;
 -- and 13 is given exactly where each coder has a path and either pass of an iteration does. So what a pass says of it in one iteration it says in every.
 -- Assumes nothing.
-use Rattle.std.specs.Prelude.{◌≡◌, ◌↔◌, ◌⊎◌, List, ℤ}
+use Rattle.std.specs.Prelude.{◌≡◌, ◌↔◌, ◌⊎◌, List, ℤ, Err}
 use Rattle.std.proofs.Math.Path.{refl}
 use Rattle.std.proofs.Common.{inl, inr, ⊎_elim}
 use Rattle.std.proofs.Math.Option.{Option, none, some}
@@ -9,7 +9,6 @@ use Prim.Native.Nat.{ℕ, zero, suc, ◌-◌, ◌<◌}
 use native.Mathlib.Omega.{arith}
 use Rattle.std.proofs.Math.ListN.{get_or}
 use Rattle.refusal.specs.declared.Refusal.TheVariants.{ForcedPosition}
-use Rattle.refusal.specs.declared.Reply.TheVariants.{Refused}
 use Rattle.trellis.specs.declared.End.{End}
 use Rattle.trellis.specs.declared.Outcome.{Outcome}
 use Rattle.trellis.specs.declared.Outcome.TheVariants.{Free, Forced}
@@ -81,6 +80,6 @@ module _ (c : DecodeCall) (l : DecodeLent) (x : DecodeResult) (is : IsDecoding c
   is_empty_lem : SomePassForced → EitherEmpty c.frame
   is_empty_lem = ⊎_elim (λ s. inl (in_first.1 s).1) (λ s. inr (in_second.1 s).1)
 
-  pub refused_by_passes : (x.reply ≡ Refused ForcedPosition) ↔ (BothPaths c.frame × SomePassForced)
+  pub refused_by_passes : (x.reply ≡ Err ForcedPosition) ↔ (BothPaths c.frame × SomePassForced)
   refused_by_passes =
       (λ e. let (paths, empty) = is.forced.0 e in (paths, called paths empty), λ s. is.forced.1 (s.0, is_empty_lem s.1))

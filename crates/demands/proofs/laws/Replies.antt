@@ -1,7 +1,7 @@
 -- The frame decoder's reply by its paths: 12 exactly where not each coder has one, 13 exactly where each has and a message position is forced in either,
 -- and done otherwise; and what each of these replies leaves of the lists.
 -- Assumes nothing.
-use Rattle.std.specs.Prelude.{◌≡◌, ◌↔◌, ◌⊎◌, Bool, not, ◌||◌, pos, length, replicate}
+use Rattle.std.specs.Prelude.{◌≡◌, ◌↔◌, ◌⊎◌, Bool, not, ◌||◌, pos, length, replicate, Ok, Err}
 use Rattle.std.proofs.Math.Path.{refl}
 use Rattle.std.proofs.Common.{sym, ◌∙◌, inl, inr, arith}
 use Rattle.std.proofs.Math.Logic.{⊎_elim}
@@ -12,9 +12,7 @@ use Rattle.lists.specs.Lists.{is_empty, any, upto}
 use Rattle.lists.specs.laws.Every.{any_upto_at, at_any_upto}
 use Rattle.lists.specs.laws.Tests.{or_cases}
 use Rattle.refusal.specs.declared.Refusal.TheVariants.{NoPath, ForcedPosition}
-use Rattle.refusal.specs.declared.Reply.{Reply}
-use Rattle.refusal.specs.declared.Reply.TheVariants.{Done, Refused}
-use Rattle.refusal.specs.Refusals.{check, ◌then◌, first_of}
+use Rattle.refusal.specs.Refusals.{Reply, check, ◌then◌, first_of}
 use Rattle.refusal.specs.laws.Checks.{refused_is_not_done}
 use Rattle.refusal.specs.laws.InTurn.{first_passes}
 use Rattle.trellis.specs.declared.End.{End}
@@ -95,14 +93,14 @@ module _ (f : Frame) where
 
 -- what a reply says, where P is that each coder has a path, and Q that a message position is forced
 pub record Says (r : Reply) (P Q : Type 0) : Type 0 where
-  pub no_path : (r ≡ Refused NoPath) ↔ (P → ⊥)
-  pub forced : (r ≡ Refused ForcedPosition) ↔ (P × Q)
-  pub done : (r ≡ Done) ↔ (P × (Q → ⊥))
+  pub no_path : (r ≡ Err NoPath) ↔ (P → ⊥)
+  pub forced : (r ≡ Err ForcedPosition) ↔ (P × Q)
+  pub done : (r ≡ Ok tt) ↔ (P × (Q → ⊥))
 
-neither_refusal : Refused NoPath ≡ Refused ForcedPosition → ⊥
+neither_refusal : ◌≡◌ {A = Reply} (Err NoPath) (Err ForcedPosition) → ⊥
 neither_refusal e = let z : ◌≡◌ {A = ℕ} 0 1 = cc in omega arith
 
-reply_says : {P Q : Type 0} (b d : Bool) → Tells b P → Tells d Q → Says (check b NoPath then check (not d) ForcedPosition then Done) P Q
+reply_says : {P Q : Type 0} (b d : Bool) → Tells b P → Tells d Q → Says (check b NoPath then check (not d) ForcedPosition then Ok tt) P Q
 unfolding check ◌then◌
 reply_says false d t u =
     let none = t.no refl in
@@ -137,7 +135,7 @@ ways true false t u = inr (inr (t.yes refl, u.no refl))
 pub frame_ways : (f : Frame) → (BothPaths f → ⊥) ⊎ ((BothPaths f × EitherEmpty f) ⊎ (BothPaths f × (EitherEmpty f → ⊥)))
 frame_ways f = ways _ _ (paths_told f) (empty_told f)
 
-module _ (c : DecodeCall) (l : DecodeLent) (passed : first_of (decode_lent_checks c l) ≡ Done) where
+module _ (c : DecodeCall) (l : DecodeLent) (passed : first_of (decode_lent_checks c l) ≡ Ok tt) where
   reply_is : (decode c l).reply ≡ first_of (decode_path_checks c.frame)
   unfolding decode decode_settled decode_checks
   reply_is = first_passes (decode_lent_checks c l) (decode_path_checks c.frame) passed
@@ -152,6 +150,6 @@ module _ (c : DecodeCall) (l : DecodeLent) (passed : first_of (decode_lent_check
   decode_clears = rw (first_passes (decode_lent_checks c l) (decode_path_checks c.frame) passed) (walked_clears c.frame l.work)
 
 -- any refusal keeps the result lists
-pub decode_keeps : (c : DecodeCall) (l : DecodeLent) → ((decode c l).reply ≡ Done → ⊥) → FrameListsKept l (decode c l).lists
+pub decode_keeps : (c : DecodeCall) (l : DecodeLent) → ((decode c l).reply ≡ Ok tt → ⊥) → FrameListsKept l (decode c l).lists
 unfolding decode decode_settled
 decode_keeps c l h = record { bits = after_refusal h _ _; margins = after_refusal h _ _; extrinsics = after_refusal h _ _ }

@@ -2,9 +2,8 @@
 -- the decoder accepts has its sent bit's sign or is zero, and every systematic value of the message is nonzero, the bits after each iteration
 -- are the message.
 -- Assumes nothing.
-use Rattle.std.specs.Prelude.{◌≡◌, List, ℕ, ◌+◌, ℤ, pos}
+use Rattle.std.specs.Prelude.{◌≡◌, List, ℕ, ◌+◌, ℤ, pos, Ok}
 use Rattle.std.proofs.Common.{sym, subst, ◌∙◌}
-use Rattle.refusal.specs.declared.Reply.TheVariants.{Done}
 use Rattle.refusal.specs.Refusals.{after}
 use Rattle.frame.specs.Frame.{Frame, tail1, tail2, sections2, frame_length, flags, spread}
 use Rattle.frame.specs.laws.Flags.{flags_set}
@@ -36,8 +35,8 @@ right_places f message sent received framed frame right =
     }
 
 -- for every number of iterations that the decoder accepts
-pub right_signed_gives_the_message : (c : EncodeCall) (sent : List ℕ) → (encode c sent).reply ≡ Done → (d : DecodeCall) (l : DecodeLent) →
-    d.frame ≡ c.frame → IsRightSigned c.frame (encode c sent).sent d.received → (decode d l).reply ≡ Done →
+pub right_signed_gives_the_message : (c : EncodeCall) (sent : List ℕ) → (encode c sent).reply ≡ Ok tt → (d : DecodeCall) (l : DecodeLent) →
+    d.frame ≡ c.frame → IsRightSigned c.frame (encode c sent).sent d.received → (decode d l).reply ≡ Ok tt →
     (decode d l).lists.bits ≡ c.message
 unfolding decode decode_settled after sections2 tail2
 right_signed_gives_the_message c sent coded d l same right done =

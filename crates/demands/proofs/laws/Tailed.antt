@@ -1,13 +1,12 @@
 -- A table that has one tail from every state: a frame over it with as many tail sections and two zero ends is refused by the checks alone, in the coder and in the
 -- frame decoder.
 -- Assumes nothing.
-use Rattle.std.specs.Prelude.{◌≡◌, ℕ, ◌<◌}
+use Rattle.std.specs.Prelude.{◌≡◌, ℕ, ◌<◌, Ok}
 use Rattle.std.proofs.Math.Path.{refl}
 use Rattle.std.proofs.Math.Bool.{true}
 use mathlib.Core.List.{List, ◌++◌}
 use Rattle.std.proofs.Math.Option.{Option, none, some, map, bind}
 use Rattle.lists.specs.Lists.{found}
-use Rattle.refusal.specs.declared.Reply.TheVariants.{Done}
 use Rattle.refusal.specs.Refusals.{first_of}
 use Rattle.trellis.specs.declared.End.TheVariants.{Zero}
 use Rattle.trellis.specs.Table.{Table, shaped, branched}
@@ -61,7 +60,7 @@ module _ (t : Table) (n : ℕ) (shape : shaped t ≡ true) (branches : branched 
 
   module _ (c : EncodeCall) (sent : List ℕ) (is : IsTailed t n c.frame) where
     -- both coders have one
-    both_tailed : first_of (encode_lent_checks c sent) ≡ Done → found (sent_for c.frame c.message) ≡ true
+    both_tailed : first_of (encode_lent_checks c sent) ≡ Ok tt → found (sent_for c.frame c.message) ≡ true
     unfolding sent_for bind
     both_tailed passed =
         let f = c.frame in

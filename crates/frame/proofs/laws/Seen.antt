@@ -91,3 +91,6 @@ seen_twice {p} {i} {seen} h m s = refuted p (λ e. clash (permuting (length p) p
 -- no entry left
 pub seen_all : {p : List ℕ} {seen : List Bool} → Seen p (length p) seen → permutes (length p) p ≡ true
 seen_all {p} s = distinct_permutes p s.below s.distinct
+
+-- what a pass over a pattern goes by
+pub ruleset one_pass = (seen_more, seen_too_large, seen_twice, seen_all)

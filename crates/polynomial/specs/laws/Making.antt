@@ -1,13 +1,12 @@
 -- What the builder of a pattern relies on: K and both coefficients are small, so that no sum wraps.
 -- Assumes nothing.
-use Rattle.std.specs.Prelude.{◌≡◌, true, false, List, ℕ, ◌*◌, ◌^◌, ◌≤◌, ◌<◌, length}
+use Rattle.std.specs.Prelude.{◌≡◌, true, false, List, ℕ, ◌*◌, ◌^◌, ◌≤◌, ◌<◌, length, Ok, Err}
 use Rattle.std.proofs.Common.{sym, ap, ◌∙◌, mul_assoc, mul-le-mul, one-mul, pow-suc, arith}
 use Rattle.std.proofs.Math.Nat.{pow-zero}
 use borrow.Author.Tests.{ltb-true, eqb-true}
 use Rattle.lists.specs.laws.Tests.{and_both}
 use Rattle.refusal.specs.declared.Refusal.{Refusal}
 use Rattle.refusal.specs.declared.Refusal.TheVariants.{Pattern}
-use Rattle.refusal.specs.declared.Reply.TheVariants.{Done, Refused}
 use Rattle.refusal.specs.Refusals.{check, ◌then◌, first_of, after}
 use Rattle.refusal.specs.laws.InTurn.{first_passes, first_refuses, Each, each_holds}
 use Rattle.frame.specs.Interleaver.{permutes}
@@ -34,6 +33,9 @@ squared a i = mul_assoc a i i ∙ ap (λ (x : ℕ). a * x) (sym (pow-suc i 1 ∙
     itself : i ^ 1 ≡ i
     itself = pow-suc i 0 ∙ ap (λ (x : ℕ). x * i) (pow-zero i) ∙ one-mul i
 
+-- what entry goes by
+pub ruleset products = (linear_small, square_small, squared)
+
 -- ---- a call: refused, or built
 
 module _ (c : PatternCall) (pattern : List ℕ) where
@@ -41,7 +43,7 @@ module _ (c : PatternCall) (pattern : List ℕ) where
     pub small : Small c
     pub long : length pattern ≡ c.bits
 
-  pub fitting : first_of (size_checks c (length pattern)) ≡ Done → Fitting
+  pub fitting : first_of (size_checks c (length pattern)) ≡ Ok tt → Fitting
   unfolding size_checks Each coefficients_fit bits_fit
   fitting e =
       let (coefficients, (sizes, (list, end))) = each_holds (size_checks c (length pattern)) e in
@@ -56,15 +58,15 @@ module _ (c : PatternCall) (pattern : List ℕ) where
         long = eqb-true _ _ list;
       }
 
-  pub built_refused : (r : Refusal) → first_of (size_checks c (length pattern)) ≡ Refused r → pattern_result_of (Refused r) pattern ≡ pattern_built c pattern
+  pub built_refused : (r : Refusal) → first_of (size_checks c (length pattern)) ≡ Err r → pattern_result_of (Err r) pattern ≡ pattern_built c pattern
   unfolding pattern_built pattern_checks after
   built_refused r e = rw (first_refuses (size_checks c (length pattern)) (entry_checks c) e)
 
-  module _ (passed : first_of (size_checks c (length pattern)) ≡ Done) where
-    pub built_no_pattern : permutes c.bits (entries c) ≡ false → pattern_result_of (Refused Pattern) pattern ≡ pattern_built c pattern
+  module _ (passed : first_of (size_checks c (length pattern)) ≡ Ok tt) where
+    pub built_no_pattern : permutes c.bits (entries c) ≡ false → pattern_result_of (Err Pattern) pattern ≡ pattern_built c pattern
     unfolding pattern_built pattern_checks entry_checks first_of check ◌then◌ after
     built_no_pattern e = rw (first_passes (size_checks c (length pattern)) (entry_checks c) passed, e)
 
-    pub built_done : {made : List ℕ} → permutes c.bits (entries c) ≡ true → made ≡ entries c → pattern_result_of Done made ≡ pattern_built c pattern
+    pub built_done : {made : List ℕ} → permutes c.bits (entries c) ≡ true → made ≡ entries c → pattern_result_of (Ok tt) made ≡ pattern_built c pattern
     unfolding pattern_built pattern_checks entry_checks first_of check ◌then◌ after
     built_done e is = rw (first_passes (size_checks c (length pattern)) (entry_checks c) passed, e, is)

@@ -1,8 +1,7 @@
 -- What reading promises of its count: it lies within the room, and does not fall.
 -- Assumes nothing.
-use Rattle.std.specs.Prelude.{ℕ, ◌≤◌}
-use Rattle.receiver.specs.declared.input.Input.{Input}
+use Rattle.std.specs.Prelude.{ℕ, ◌≤◌, Result, Ok, Err}
 
-abbrev pub Counted : ℕ → ℕ → Input → Type 0
-Counted from room (Input.Whole n) = (from ≤ n) × (n ≤ room)
-Counted from room (Input.Failed _) = Unit {0}
+abbrev pub Counted : {E : Type 0} → ℕ → ℕ → Result ℕ E → Type 0
+Counted from room (Ok n) = (from ≤ n) × (n ≤ room)
+Counted from room (Err _) = Unit {0}

@@ -1,16 +1,14 @@
 -- Laws of a list of checks, whatever its checks are: when the reply is done, which refusal it gives, one list after another, and which refusals it can give at
 -- all.
 -- Assumes nothing.
-use Rattle.std.specs.Prelude.{◌≡◌, ◌↔◌, Bool, true, List, [], ◌∷◌, ◌++◌}
+use Rattle.std.specs.Prelude.{◌≡◌, ◌↔◌, Bool, true, List, [], ◌∷◌, ◌++◌, Ok, Err}
 use Rattle.std.proofs.Math.Path.{refl, sym, ap}
 use Rattle.std.proofs.Common.{ap₂, ◌∙◌}
 use Rattle.std.proofs.Math.Bool.{false}
 use Rattle.lists.specs.Lists.{every}
 use Rattle.lists.specs.laws.Tests.{and_both, and_true}
 use Rattle.refusal.specs.declared.Refusal.{Refusal}
-use Rattle.refusal.specs.declared.Reply.{Reply}
-use Rattle.refusal.specs.declared.Reply.TheVariants.{Done, Refused}
-use Rattle.refusal.specs.Refusals.{told, Check, ◌unless◌, check, ◌then◌, first_of}
+use Rattle.refusal.specs.Refusals.{Reply, told, Check, ◌unless◌, check, ◌then◌, first_of}
 use Rattle.refusal.specs.Replied.{all_hold, IsFirstToFail, IsReply}
 use Rattle.refusal.specs.laws.Checks.{refused_is_not_done, check_is_done, then_is_done, done_then, refused_then, then_assoc, done_after, fails_first}
 use Rattle.refusal.specs.laws.Kept.{Gives, gives_done, gives_check, gives_then, gives_refusal, other, other_is_not}
@@ -25,18 +23,18 @@ first_of_both (c ∷ xs) ys =
 
 module _ (xs ys : List Check) where
   -- where those before are done, the rest decides, and otherwise they do
-  pub first_passes : first_of xs ≡ Done → first_of (xs ++ ys) ≡ first_of ys
+  pub first_passes : first_of xs ≡ Ok tt → first_of (xs ++ ys) ≡ first_of ys
   first_passes e = first_of_both xs ys ∙ done_then e
 
-  pub first_refuses : {r : Refusal} → first_of xs ≡ Refused r → first_of (xs ++ ys) ≡ Refused r
+  pub first_refuses : {r : Refusal} → first_of xs ≡ Err r → first_of (xs ++ ys) ≡ Err r
   first_refuses e = first_of_both xs ys ∙ refused_then (first_of ys) e
 
   -- where the rest is done, those before decide
-  pub rest_done : first_of ys ≡ Done → first_of (xs ++ ys) ≡ first_of xs
+  pub rest_done : first_of ys ≡ Ok tt → first_of (xs ++ ys) ≡ first_of xs
   rest_done e = first_of_both xs ys ∙ sym (done_after (first_of xs) e)
 
   -- both are done where the whole is
-  pub both_done : first_of (xs ++ ys) ≡ Done → (first_of xs ≡ Done) × (first_of ys ≡ Done)
+  pub both_done : first_of (xs ++ ys) ≡ Ok tt → (first_of xs ≡ Ok tt) × (first_of ys ≡ Ok tt)
   both_done e = (then_is_done (first_of xs) (first_of ys)).0 (sym (first_of_both xs ys) ∙ e)
 
 -- a check that holds decides nothing
@@ -52,14 +50,14 @@ unfoldable pub Each : List Check → Type 0
 Each [] = Unit
 Each (c ∷ cs) = (c.holds ≡ true) × Each cs
 
-pub each_holds : (cs : List Check) → first_of cs ≡ Done → Each cs
+pub each_holds : (cs : List Check) → first_of cs ≡ Ok tt → Each cs
 unfolding first_of Each
 each_holds [] e = tt
 each_holds (c ∷ cs) e =
     let (here, rest) = (then_is_done (check c.holds c.refusal) (first_of cs)).0 e in
     ((check_is_done c.holds c.refusal).0 here, each_holds cs rest)
 
-pub each_done : (cs : List Check) → Each cs → first_of cs ≡ Done
+pub each_done : (cs : List Check) → Each cs → first_of cs ≡ Ok tt
 unfolding first_of Each
 each_done [] h = refl
 each_done (c ∷ cs) h =
@@ -75,20 +73,20 @@ unfolding every Each
 all_is_each [] e = tt
 all_is_each (c ∷ cs) e = let (here, rest) = and_both _ _ e in (here, all_is_each cs rest)
 
-pub done_exactly : (cs : List Check) → (first_of cs ≡ Done) ↔ (all_hold cs ≡ true)
+pub done_exactly : (cs : List Check) → (first_of cs ≡ Ok tt) ↔ (all_hold cs ≡ true)
 done_exactly cs = (λ e. each_is_all cs (each_holds cs e), λ e. each_done cs (all_is_each cs e))
 
 -- ---- the first that fails
 
-same_refusal : {r s : Refusal} → Refused s ≡ Refused r → s ≡ r
+same_refusal : {r s : Refusal} → ◌≡◌ {A = Reply} (Err s) (Err r) → s ≡ r
 same_refusal e = cc
 
-first_refused : (cs : List Check) (r : Refusal) → first_of cs ≡ Refused r → IsFirstToFail cs r
+first_refused : (cs : List Check) (r : Refusal) → first_of cs ≡ Err r → IsFirstToFail cs r
 unfolding first_of check ◌then◌ every
 first_refused [] r e = absurd (refused_is_not_done (sym e))
 first_refused (c ∷ cs) r e = go c.holds refl e (first_refused cs r)
   where
-    go : (b : Bool) → c.holds ≡ b → (check b c.refusal then first_of cs) ≡ Refused r → (first_of cs ≡ Refused r → IsFirstToFail cs r) →
+    go : (b : Bool) → c.holds ≡ b → (check b c.refusal then first_of cs) ≡ Err r → (first_of cs ≡ Err r → IsFirstToFail cs r) →
         IsFirstToFail (c ∷ cs) r
     go false h e later = record { before = []; after = cs; in_turn = ap₂ (λ (s : Refusal) (b : Bool). s unless b ∷ cs) (same_refusal e) h; hold_before = refl }
     go true h e later =
@@ -100,7 +98,7 @@ first_refused (c ∷ cs) r e = go c.holds refl e (first_refused cs r)
           hold_before = and_true h rest.hold_before;
         }
 
-refused_first : (cs : List Check) (r : Refusal) → IsFirstToFail cs r → first_of cs ≡ Refused r
+refused_first : (cs : List Check) (r : Refusal) → IsFirstToFail cs r → first_of cs ≡ Err r
 unfolding first_of check ◌then◌
 refused_first cs r h =
     ap first_of h.in_turn ∙ first_passes h.before (r unless false ∷ h.after) ((done_exactly h.before).1 h.hold_before)
@@ -113,8 +111,8 @@ pub reply_exactly : (cs : List Check) (x : Reply) → IsReply cs x ↔ (x ≡ fi
 reply_exactly cs x = (go (first_of cs) refl, λ e. rw e (first_is_reply cs))
   where
     go : (y : Reply) → first_of cs ≡ y → IsReply cs x → x ≡ y
-    go Done e h = h.done.1 ((done_exactly cs).0 e)
-    go (Refused r) e h = (h.refused r).1 (first_refused cs r e)
+    go (Ok tt) e h = h.done.1 ((done_exactly cs).0 e)
+    go (Err r) e h = (h.refused r).1 (first_refused cs r e)
 
 -- ---- which refusals it can give
 
@@ -130,24 +128,24 @@ module _ (xs : List Check) (c : Check) (ys : List Check) (r : Refusal) where
   others = other (told r).number
 
   module _ (only-before : every (λ d. others d.refusal) xs ≡ true) (only-after : every (λ d. others d.refusal) ys ≡ true) where
-    told_there : first_of (xs ++ (c ∷ ys)) ≡ Refused r → (first_of xs ≡ Done) × ((c.holds ≡ false) × (c.refusal ≡ r))
+    told_there : first_of (xs ++ (c ∷ ys)) ≡ Err r → (first_of xs ≡ Ok tt) × ((c.holds ≡ false) × (c.refusal ≡ r))
     told_there e = before (first_of xs) refl (sym (first_of_both xs (c ∷ ys)) ∙ e)
       where
-        never : {x : Reply} → Gives others x → x ≡ Refused r → ⊥
+        never : {x : Reply} → Gives others x → x ≡ Err r → ⊥
         never {x} g is = other_is_not r (gives_refusal {f = others} {r = r} (rw is at g))
 
-        here : (b : Bool) → c.holds ≡ b → (check b c.refusal then first_of ys) ≡ Refused r → (c.holds ≡ false) × (c.refusal ≡ r)
+        here : (b : Bool) → c.holds ≡ b → (check b c.refusal then first_of ys) ≡ Err r → (c.holds ≡ false) × (c.refusal ≡ r)
         here true h e = unfold check ◌then◌ in absurd (never (first_gives others ys only-after) e)
         here false h e = unfold check ◌then◌ in (h, same_refusal e)
 
-        before : (x : Reply) → first_of xs ≡ x → (x then first_of (c ∷ ys)) ≡ Refused r → (first_of xs ≡ Done) × ((c.holds ≡ false) × (c.refusal ≡ r))
-        before Done h e = unfold ◌then◌ first_of in (h, here c.holds refl e)
-        before (Refused s) h e = unfold ◌then◌ in absurd (never (rw h at (first_gives others xs only-before)) e)
+        before : (x : Reply) → first_of xs ≡ x → (x then first_of (c ∷ ys)) ≡ Err r → (first_of xs ≡ Ok tt) × ((c.holds ≡ false) × (c.refusal ≡ r))
+        before (Ok tt) h e = unfold ◌then◌ first_of in (h, here c.holds refl e)
+        before (Err s) h e = unfold ◌then◌ in absurd (never (rw h at (first_gives others xs only-before)) e)
 
-    pub told_exactly : (first_of (xs ++ (c ∷ ys)) ≡ Refused r) ↔ ((all_hold xs ≡ true) × ((c.holds ≡ false) × (c.refusal ≡ r)))
+    pub told_exactly : (first_of (xs ++ (c ∷ ys)) ≡ Err r) ↔ ((all_hold xs ≡ true) × ((c.holds ≡ false) × (c.refusal ≡ r)))
     told_exactly = (
       λ e. let (x, at) = told_there e in ((done_exactly xs).0 x, at),
       λ h.
           first_passes xs (c ∷ ys) ((done_exactly xs).1 h.0)
-          ∙ unfold first_of in sym (fails_first (first_of ys) h.1.0) ∙ ap Refused h.1.1,
+          ∙ unfold first_of in sym (fails_first (first_of ys) h.1.0) ∙ ap Err h.1.1,
     )

@@ -1,28 +1,26 @@
 -- What a reply can be, by a test on its refusal. What replies leave: refusals other than 12 and 13 leave the working list as it was, and a result list is the
 -- new one after success alone.
 -- Assumes nothing.
-use Rattle.std.specs.Prelude.{◌≡◌, ◌≢◌, Bool, not, ◌||◌, List, ℕ, eqb, ℤ}
+use Rattle.std.specs.Prelude.{◌≡◌, ◌≢◌, Bool, not, ◌||◌, List, ℕ, eqb, ℤ, Ok, Err}
 use Rattle.std.proofs.Math.Path.{refl}
 use Rattle.std.proofs.Common.{sym, arith}
 use Rattle.std.proofs.Math.Bool.{true, false}
 use Rattle.std.proofs.lemmas.Bool.{false≢true, eqb-false, not-true}
 use Rattle.refusal.specs.declared.Refusal.{Refusal}
-use Rattle.refusal.specs.declared.Reply.{Reply}
-use Rattle.refusal.specs.declared.Reply.TheVariants.{Done, Refused}
-use Rattle.refusal.specs.Refusals.{told, number_of, check, ◌then◌, after, cleared}
+use Rattle.refusal.specs.Refusals.{Reply, told, number_of, check, ◌then◌, after, cleared}
 
 -- ---- done, or a refusal that passes a test
 
 module _ (f : Refusal → Bool) where
   unfoldable passing : Reply → Bool
-  passing Done = true
-  passing (Refused r) = f r
+  passing (Ok tt) = true
+  passing (Err r) = f r
 
   pub record Gives (x : Reply) : Type 0 where
     gives : passing x ≡ true
 
 module _ {f : Refusal → Bool} where
-  pub gives_done : Gives f Done
+  pub gives_done : Gives f (Ok tt)
   unfolding passing
   gives_done = record { gives = refl }
 
@@ -35,10 +33,10 @@ module _ {f : Refusal → Bool} where
   gives_then {x} {y} e g = go x e
     where
       go : (x : Reply) → Gives f x → Gives f (x then y)
-      go Done e = unfold ◌then◌ in g
-      go (Refused r) e = unfold ◌then◌ in e
+      go (Ok tt) e = unfold ◌then◌ in g
+      go (Err r) e = unfold ◌then◌ in e
 
-  pub gives_refusal : {r : Refusal} → Gives f (Refused r) → f r ≡ true
+  pub gives_refusal : {r : Refusal} → Gives f (Err r) → f r ≡ true
   unfolding passing
   gives_refusal e = e.gives
 
@@ -55,8 +53,8 @@ unfolding passing other number_of
 never_told n {x} some e = go x e
   where
     go : (x : Reply) → Gives (other n) x → number_of x ≢ n
-    go Done e = λ is. some (sym is)
-    go (Refused r) e = eqb-false (told r).number n (not-true (eqb (told r).number n) e.gives)
+    go (Ok tt) e = λ is. some (sym is)
+    go (Err r) e = eqb-false (told r).number n (not-true (eqb (told r).number n) e.gives)
 
 -- ---- the working list
 
@@ -72,7 +70,7 @@ neither true b e = absurd (false≢true e)
 neither false true e = absurd (false≢true e)
 neither false false e = (refl, refl)
 
-pub early_keeps : (r : Refusal) (work : List ℤ) → Early (Refused r) → cleared (Refused r) work ≡ work
+pub early_keeps : (r : Refusal) (work : List ℤ) → Early (Err r) → cleared (Err r) work ≡ work
 unfolding spares cleared
 early_keeps r work e =
     let (not-12, not-13) = neither (eqb (told r).number 12) (eqb (told r).number 13) (gives_refusal e) in
@@ -83,22 +81,22 @@ unfolding passing spares number_of
 early_never {x} e = go x e
   where
     go : (x : Reply) → Early x → (number_of x ≢ 12) × (number_of x ≢ 13)
-    go Done e = (λ is. omega arith, λ is. omega arith)
-    go (Refused r) e =
+    go (Ok tt) e = (λ is. omega arith, λ is. omega arith)
+    go (Err r) e =
         let (not-12, not-13) = neither (eqb (told r).number 12) (eqb (told r).number 13) e.gives in
         (eqb-false (told r).number 12 not-12, eqb-false (told r).number 13 not-13)
 
 -- ---- lists after a reply
 
 module _ {A : Type 0} where
-  pub after_done : {r : Reply} → r ≡ Done → (new old : A) → after r new old ≡ new
+  pub after_done : {r : Reply} → r ≡ Ok tt → (new old : A) → after r new old ≡ new
   unfolding after
   after_done e new old = rw e
 
-  pub after_refusal : {r : Reply} → (r ≡ Done → ⊥) → (new old : A) → after r new old ≡ old
+  pub after_refusal : {r : Reply} → (r ≡ Ok tt → ⊥) → (new old : A) → after r new old ≡ old
   unfolding after
   after_refusal {r} h new old = go r h
     where
-      go : (r : Reply) → (r ≡ Done → ⊥) → after r new old ≡ old
-      go Done h = absurd (h refl)
-      go (Refused r) h = refl
+      go : (r : Reply) → (r ≡ Ok tt → ⊥) → after r new old ≡ old
+      go (Ok tt) h = absurd (h refl)
+      go (Err r) h = refl

@@ -1,13 +1,11 @@
 -- What concluding leaves: a refusal leaves the lists as they were, and behind the checks of lengths and pattern only 13 can come.
 -- Assumes nothing.
-use Rattle.std.specs.Prelude.{◌≡◌, true, ◌&&◌, List, map, ℕ, ℤ, pos, length}
+use Rattle.std.specs.Prelude.{◌≡◌, true, ◌&&◌, List, map, ℕ, ℤ, pos, length, Ok, Err}
 use Rattle.std.proofs.Common.{sym, ap, ◌∙◌, eq-eqb, eqb-true}
 use Rattle.lists.specs.laws.Tests.{and_both, and_true}
 use Rattle.refusal.specs.declared.Refusal.{Refusal}
 use Rattle.refusal.specs.declared.Refusal.TheVariants.{ForcedPosition}
-use Rattle.refusal.specs.declared.Reply.{Reply}
-use Rattle.refusal.specs.declared.Reply.TheVariants.{Done, Refused}
-use Rattle.refusal.specs.Refusals.{check, first_of, after}
+use Rattle.refusal.specs.Refusals.{Reply, check, first_of, after}
 use Rattle.refusal.specs.laws.Checks.{check_is_done, done_then, then_done}
 use Rattle.frame.specs.Interleaver.{deinterleave}
 use Rattle.soft.specs.Soft.{decided}
@@ -15,11 +13,11 @@ use Rattle.result.specs.Result.{ConcludeCall, ConcludeLent, ConcludeResult, conc
 use Rattle.result.specs.Result.{conclude_result_of}
 
 module _ (c : ConcludeCall) (l : ConcludeLent) where
-  pub concluded_not : {r : Refusal} → Refused r ≡ first_of (conclude_checks c l) → record { reply = Refused r; lists = l } ≡ conclude c l
+  pub concluded_not : {r : Refusal} → Err r ≡ first_of (conclude_checks c l) → record { reply = Err r; lists = l } ≡ conclude c l
   unfolding conclude conclude_settled after
   concluded_not e = rw (sym e)
 
-  pub concluded_done : Done ≡ first_of (conclude_checks c l) → conclude_settled Done c l ≡ conclude c l
+  pub concluded_done : (Ok tt) ≡ first_of (conclude_checks c l) → conclude_settled (Ok tt) c l ≡ conclude c l
   unfolding conclude
   concluded_done e = rw (sym e)
 

@@ -1,6 +1,6 @@
 -- The text's faults: the reply by its tests one after the other, the first fault line by line, and what a sheet whose text fits is.
 -- Assumes nothing.
-use Rattle.std.specs.Prelude.{◌≡◌, Bool, cond, not, ◌&&◌, ℕ, suc, ◌+◌, ◌-◌, ◌≤◌, ◌<◌, length, get_or, take, drop}
+use Rattle.std.specs.Prelude.{◌≡◌, Bool, cond, not, ◌&&◌, ℕ, suc, ◌+◌, ◌-◌, ◌≤◌, ◌<◌, length, get_or, take, drop, Ok, Err}
 use Rattle.std.proofs.Math.Path.{refl, ap}
 use Rattle.std.proofs.Common.{sym, ◌∙◌, arith, drop_of_length-le, drop-cons}
 use Rattle.std.proofs.Math.Bool.{true, false}
@@ -15,9 +15,7 @@ use Rattle.lists.specs.Lists.{is_empty, found}
 use Rattle.lists.specs.laws.Tests.{and_both}
 use Rattle.text.specs.Text.{cut}
 use Rattle.refusal.specs.declared.Refusal.TheVariants.{Text}
-use Rattle.refusal.specs.declared.Reply.{Reply}
-use Rattle.refusal.specs.declared.Reply.TheVariants.{Done, Refused}
-use Rattle.refusal.specs.Refusals.{check, ◌then◌, first_of}
+use Rattle.refusal.specs.Refusals.{Reply, check, ◌then◌, first_of}
 use Rattle.refusal.specs.laws.Checks.{fails_first, passes_first}
 use Rattle.refusal.specs.laws.InTurn.{Each, each_holds}
 use Rattle.rows.specs.Lines.{lines_of, last_piece, row_count, message_bits, line_fits, fault_from, first_fault, fault_line, size_fits, text_checks}
@@ -74,7 +72,7 @@ line_is {sheet} {i} b ends h =
 -- ---- the reply, test by test
 
 -- the first fault, told
-fault_told : (f : Option ℕ) → Option-elim f Done (λ i. Refused (Text (suc i))) ≡ (check (not (found f)) (Text (Option-elim f 0 suc)) then Done)
+fault_told : (f : Option ℕ) → Option-elim f (Ok tt) (λ i. Err (Text (suc i))) ≡ (check (not (found f)) (Text (Option-elim f 0 suc)) then Ok tt)
 unfolding Option-elim found check ◌then◌
 fault_told none = refl
 fault_told (some i) = refl
@@ -86,14 +84,14 @@ module _ (sheet : List ℕ) where
   abbrev rows : ℕ
   rows = row_count sheet
 
-  pub too_long : 16384 < length sheet → Refused (Text 0) ≡ first_of (text_checks sheet)
+  pub too_long : 16384 < length sheet → Err (Text 0) ≡ first_of (text_checks sheet)
   unfolding text_checks first_of size_fits
   too_long h = fails_first _ (go (leb 3 rows) (leb rows 514))
     where
       go : (b c : Bool) → (leb (length sheet) 16384 && b && c) ≡ false
       go b c = rw (lt-leb (length sheet) 16384 h) refl
 
-  pub too_few : rows < 3 → Refused (Text 0) ≡ first_of (text_checks sheet)
+  pub too_few : rows < 3 → Err (Text 0) ≡ first_of (text_checks sheet)
   unfolding text_checks first_of size_fits
   too_few h = fails_first _ (go (leb (length sheet) 16384) (leb rows 514))
     where
@@ -101,7 +99,7 @@ module _ (sheet : List ℕ) where
       go true c = rw (lt-leb 3 rows h) refl
       go false c = refl
 
-  pub too_many : 514 < rows → Refused (Text 0) ≡ first_of (text_checks sheet)
+  pub too_many : 514 < rows → Err (Text 0) ≡ first_of (text_checks sheet)
   unfolding text_checks first_of size_fits
   too_many h = fails_first _ (go (leb (length sheet) 16384) (leb 3 rows))
     where
@@ -114,20 +112,20 @@ module _ (sheet : List ℕ) where
     sized : (leb (length sheet) 16384 && leb 3 rows && leb rows 514) ≡ true
     sized = small _ _ _ (le-leb (length sheet) 16384 short) (le-leb 3 rows least) (le-leb rows 514 most)
 
-    pub text_by : {x : Reply} → x ≡ Option-elim (first_fault sheet) Done (λ i. Refused (Text (suc i))) → x ≡ first_of (text_checks sheet)
+    pub text_by : {x : Reply} → x ≡ Option-elim (first_fault sheet) (Ok tt) (λ i. Err (Text (suc i))) → x ≡ first_of (text_checks sheet)
     unfolding text_checks first_of size_fits fault_line
     text_by e = passes_first (Text 0) sized (e ∙ fault_told (first_fault sheet))
 
-    pub text_fault : {i : ℕ} → fault_from (message_bits sheet) 0 (lines_of sheet) ≡ some i → Refused (Text (i + 1)) ≡ first_of (text_checks sheet)
+    pub text_fault : {i : ℕ} → fault_from (message_bits sheet) 0 (lines_of sheet) ≡ some i → Err (Text (i + 1)) ≡ first_of (text_checks sheet)
     unfolding first_fault or_else Option-elim
     text_fault {i} e = text_by (rw (e, add-one i) refl)
 
     pub text_open : fault_from (message_bits sheet) 0 (lines_of sheet) ≡ none → is_empty (last_piece sheet) ≡ false →
-        Refused (Text (length (lines_of sheet) + 1)) ≡ first_of (text_checks sheet)
+        Err (Text (length (lines_of sheet) + 1)) ≡ first_of (text_checks sheet)
     unfolding first_fault or_else Option-elim
     text_open e f = text_by (rw (e, f, add-one (length (lines_of sheet))) refl)
 
-    pub text_done : fault_from (message_bits sheet) 0 (lines_of sheet) ≡ none → is_empty (last_piece sheet) ≡ true → Done ≡ first_of (text_checks sheet)
+    pub text_done : fault_from (message_bits sheet) 0 (lines_of sheet) ≡ none → is_empty (last_piece sheet) ≡ true → Ok tt ≡ first_of (text_checks sheet)
     unfolding first_fault or_else Option-elim
     text_done e f = text_by (rw (e, f) refl)
 
@@ -145,7 +143,7 @@ no_fault none true n h = refl
 no_fault none false n h = absurd (false≢true h)
 no_fault (some i) e n h = absurd (false≢true h)
 
-pub fitting : (sheet : List ℕ) → first_of (text_checks sheet) ≡ Done → Fitting sheet
+pub fitting : (sheet : List ℕ) → first_of (text_checks sheet) ≡ Ok tt → Fitting sheet
 unfolding text_checks Each size_fits first_fault row_count message_bits
 fitting sheet e =
     let (sizes, (faultless, end)) = each_holds (text_checks sheet) e in

@@ -1,5 +1,7 @@
 -- A row by its fields, one after the other, as it is read; and which lines keep the rules.
 -- Assumes nothing.
+use Rattle.std.specs.Prelude as std
+use Rattle.std.specs.Option.{is_some}
 use Rattle.std.specs.Prelude.{◌≡◌, refl, Bool, true, false, cond, ◌&&◌, List, [], ℕ, zero, suc, ◌-◌, ◌≤◌, ◌<◌, ℤ}
 use Rattle.std.proofs.Math.Option.{Option, none, some, map, bind}
 use Rattle.std.proofs.Common.{arith, lt-ltb, le-ltb}
@@ -20,7 +22,7 @@ received_sent (some z) = refl
 -- ---- message rows
 
 -- by the tests and the fields, in the order in which they are read
-unfoldable pub message_by : Bool → Bool → Option ℕ → Option ℤ → Option ℤ → Option ℤ → Message
+unfoldable pub message_by : Bool → Bool → Option ℕ → Option ℤ → Option ℤ → Option ℤ → std.Option Message
 message_by false b to sys par par2 = no_message
 message_by true false to sys par par2 = no_message
 message_by true true none sys par par2 = no_message
@@ -55,7 +57,7 @@ message_by_lem k line ea eb et es ep eq = rw (ea, eb, et, es, ep, eq) (message_f
 
 -- ---- tail rows
 
-unfoldable pub tail_by : Bool → Bool → Option ℤ → Option ℤ → Option ℤ → Option ℤ → Tail
+unfoldable pub tail_by : Bool → Bool → Option ℤ → Option ℤ → Option ℤ → Option ℤ → std.Option Tail
 tail_by false b sys par par2 sys2 = no_tail
 tail_by true false sys par par2 sys2 = no_tail
 tail_by true true none par par2 sys2 = no_tail
@@ -93,24 +95,24 @@ nothing_is_no_tail k = refl
 
 -- ---- which lines keep the rules
 
-message_found : (o : Option MessageRow) → (message_shown o).fits ≡ found o
+message_found : (o : Option MessageRow) → is_some (message_shown o) ≡ found o
 unfolding message_shown found
 message_found none = refl
 message_found (some m) = refl
 
-tail_found : (o : Option TailRow) → (tail_shown o).fits ≡ found o
+tail_found : (o : Option TailRow) → is_some (tail_shown o) ≡ found o
 unfolding tail_shown found
 tail_found none = refl
 tail_found (some t) = refl
 
-pub message_line : (k i : ℕ) (line : List ℕ) → (i ≡ 0 → ⊥) → i - 1 < k → (message_shown (message_row (i - 1) line)).fits ≡ line_fits k i line
+pub message_line : (k i : ℕ) (line : List ℕ) → (i ≡ 0 → ⊥) → i - 1 < k → is_some (message_shown (message_row (i - 1) line)) ≡ line_fits k i line
 unfolding line_fits
 message_line k zero line d h = absurd (d refl)
 message_line k (suc i) line d h =
     let e : suc i - 1 ≡ i = omega arith in
     rw (e, lt-ltb i k (omega arith)) (message_found (message_row i line))
 
-pub tail_line : (k i : ℕ) (line : List ℕ) → (i ≡ 0 → ⊥) → k ≤ i - 1 → (tail_shown (tail_row (i - 1) line)).fits ≡ line_fits k i line
+pub tail_line : (k i : ℕ) (line : List ℕ) → (i ≡ 0 → ⊥) → k ≤ i - 1 → is_some (tail_shown (tail_row (i - 1) line)) ≡ line_fits k i line
 unfolding line_fits
 tail_line k zero line d h = absurd (d refl)
 tail_line k (suc i) line d h =

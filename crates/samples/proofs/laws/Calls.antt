@@ -1,6 +1,6 @@
 -- A call: a list filled from another, what the loop over the samples relies on, and the whole result, refused or done.
 -- Assumes nothing.
-use Rattle.std.specs.Prelude.{◌≡◌, ◌<◌, Float, ℤ, length, get_or}
+use Rattle.std.specs.Prelude.{◌≡◌, ◌<◌, Float, ℤ, length, get_or, Ok, Err}
 use Rattle.std.proofs.Math.Path.{refl, ap₂}
 use Rattle.std.proofs.Common.{sym, ◌∙◌, arith, eqb-true, ext_get_or}
 use Rattle.std.proofs.Math.Bool.{true}
@@ -12,7 +12,6 @@ use Rattle.lists.specs.laws.Listed.{map_at}
 use Rattle.lists.specs.laws.Stores.{Filled}
 use Rattle.lists.specs.laws.Tests.{and_both}
 use Rattle.refusal.specs.declared.Refusal.{Refusal}
-use Rattle.refusal.specs.declared.Reply.TheVariants.{Done, Refused}
 use Rattle.refusal.specs.Refusals.{first_of, after}
 use Rattle.refusal.specs.laws.InTurn.{Each, each_holds}
 use Rattle.samples.specs.declared.Setting.{Setting}
@@ -30,11 +29,11 @@ filled_map f a d xs ys e h =
 -- ---- a call: refused, or done
 
 module _ (s : Setting) (samples : List Float) (values : List ℤ) where
-  pub refused : (r : Refusal) → first_of (sample_checks s samples (length values)) ≡ Refused r → sample_result_of (Refused r) values ≡ sample_values s samples values
+  pub refused : (r : Refusal) → first_of (sample_checks s samples (length values)) ≡ Err r → sample_result_of (Err r) values ≡ sample_values s samples values
   unfolding sample_values after
   refused r e = rw e
 
-  module _ (passed : first_of (sample_checks s samples (length values)) ≡ Done) where
+  module _ (passed : first_of (sample_checks s samples (length values)) ≡ Ok tt) where
     pub accepted : (length samples ≡ length values) × (setting_fits s ≡ true) × (every finite samples ≡ true)
     unfolding sample_checks Each samples_fit
     accepted =
@@ -47,7 +46,7 @@ module _ (s : Setting) (samples : List Float) (values : List ℤ) where
         record { finite_gain = gain_finite s setting; finite_samples = all; same_length = long }
 
     pub done : {made : List ℤ} → made ≡ map (λ x. nearest_value ((factor s.channel *ᶠ s.scale) *ᶠ x)) samples →
-        sample_result_of Done made ≡ sample_values s samples values
+        sample_result_of (Ok tt) made ≡ sample_values s samples values
     unfolding sample_values after
     done e = rw (passed, e, map_same samples ready.finite_samples)
       where

@@ -61,6 +61,9 @@ module _ (a b : ℕ) where
       let m : a % b * 2 < b = rw (mod-eq_of_lt l) h in
       sym (closest_down m) ∙ div-eq_of_lt l
 
+-- what the nearest quotient goes by
+pub ruleset halves_to_even = (closest_down, closest_up, closest_even)
+
 -- ---- limits and signs
 
 -- limited with its sign, or without it
@@ -126,6 +129,9 @@ shifted x p = shl_exact 1 (150 - x) 32 (lit< tt) (omega arith) ∙ one-mul (2 ^ 
 
 pub power_small : (x : ℕ) → 126 ≤ x → 2 ^ (150 - x) < 33554432
 power_small x p = lt_of_le_of_lt (pow_mono {i = 150 - x} {j = 24} (omega arith)) (lit< tt)
+
+-- what the size by the fields goes by
+pub ruleset sizes = (size_low, size_high, size_between, shifted, power_small)
 
 -- arithmetic takes no number of more than 38 digits: these are said over a variable
 doubled : (a k : ℕ) → a < 2 ^ k → a * 2 < 2 ^ suc k

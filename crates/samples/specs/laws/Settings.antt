@@ -51,6 +51,9 @@ range_below_zero nan h = refl
 range_below_zero (inf s) h = refl
 range_below_zero (fin s m e) h = rw h
 
+-- what the test of a number goes by
+pub ruleset range_tests = (zero_is, most_is, range_from_zero, range_below_zero)
+
 holds : (b : Bool) → b ≡ true → T b
 holds true e = tt
 holds false e = absurd (false≢true e)

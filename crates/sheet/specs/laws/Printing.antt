@@ -1,6 +1,6 @@
 -- What is written to a page, text after text, and the answer's texts by their numbers.
 -- Assumes nothing.
-use Rattle.std.specs.Prelude.{◌≡◌, refl, cond, List, [], ◌∷◌, ◌++◌, ℕ, ◌+◌, ◌≤◌, leb, ℤ, pos, get_or, take}
+use Rattle.std.specs.Prelude.{◌≡◌, refl, cond, List, [], ◌∷◌, ◌++◌, ℕ, ◌+◌, ◌≤◌, leb, ℤ, pos, get_or, take, Ok, Err}
 use Rattle.std.proofs.Math.Path.{ap}
 use Rattle.std.proofs.Common.{◌∙◌, append_assoc, arith, le-leb}
 use Rattle.std.proofs.Math.ListN.{length}
@@ -9,9 +9,7 @@ use Rattle.std.proofs.lemmas.List.Edits.{take-paste}
 use Rattle.lists.specs.Lists.{joined}
 use Rattle.lists.specs.laws.Listed.{joined_more, joined_ext}
 use Rattle.refusal.specs.declared.Refusal.{Refusal}
-use Rattle.refusal.specs.declared.Reply.{Reply}
-use Rattle.refusal.specs.declared.Reply.TheVariants.{Done, Refused}
-use Rattle.refusal.specs.Refusals.{told}
+use Rattle.refusal.specs.Refusals.{Reply, told}
 use Rattle.decoder.specs.Decoder.{DecodeLent}
 use Rattle.text.specs.Text.{bytes}
 use Rattle.text.specs.Decimal.{decimal}
@@ -84,8 +82,8 @@ refusal_is r = simp append_assoc
 
 printed_some : (r : Reply) (l : DecodeLent) → 1 ≤ length (printed r l)
 unfolding printed result_text refusal_text bytes
-printed_some Done l = omega arith
-printed_some (Refused r) l = omega arith
+printed_some (Ok tt) l = omega arith
+printed_some (Err r) l = omega arith
 
 module _ (sheet before after : List ℕ) (end : ℕ) (room : length after ≡ 24600) where
   pub answer_fits_page : Wrote 24600 before 0 (answer sheet) after end → FitsPage (answer sheet)

@@ -1,7 +1,7 @@
 -- The rows of a sheet by the values in the frame's order: row by row they are what is read from left to right, and where a value is outside its limits, some
 -- row has one.
 -- Assumes nothing.
-use Rattle.std.specs.Prelude.{◌≡◌, Bool, false, ◌&&◌, ℤ, pos}
+use Rattle.std.specs.Prelude.{◌≡◌, Bool, false, ◌&&◌, ℤ, pos, Ok, Err}
 use Rattle.std.proofs.Math.Path.{refl, sym, ap, ap₂}
 use Rattle.std.proofs.Common.{◌∙◌}
 use Rattle.std.proofs.Math.Bool.{true, and_assoc, and-true as and_true_is}
@@ -18,9 +18,7 @@ use Rattle.lists.specs.laws.First.{IsFirst, first_fails}
 use Rattle.lists.specs.laws.Listed.{listed_length, listed_at, listed_ext, joined_length, joined_at}
 use Rattle.lists.specs.laws.Tests.{and_both, and_true}
 use Rattle.refusal.specs.declared.Refusal.TheVariants.{ValueInLine}
-use Rattle.refusal.specs.declared.Reply.{Reply}
-use Rattle.refusal.specs.declared.Reply.TheVariants.{Done, Refused}
-use Rattle.refusal.specs.Refusals.{check}
+use Rattle.refusal.specs.Refusals.{Reply, check}
 use Rattle.refusal.specs.laws.Checks.{check_is_done, fails}
 use Rattle.trellis.specs.Limits.{channel_fits}
 use Rattle.rows.specs.Lines.{message_bits}
@@ -86,11 +84,11 @@ module _ (k : ℕ) (values : List ℤ) where
       ∙ get_or-append-add messages _ (i - k) []
       ∙ listed_at _ 2 (i - k) [] (omega arith)
 
-  pub values_refused : channel_fits values ≡ false → Refused (ValueInLine (first_failing channel_fits (rows_in k values) + 2)) ≡ values_reply k values
+  pub values_refused : channel_fits values ≡ false → Err (ValueInLine (first_failing channel_fits (rows_in k values) + 2)) ≡ values_reply k values
   unfolding values_reply
   values_refused e = fails e
 
-  pub values_done : channel_fits values ≡ true → values_reply k values ≡ Done
+  pub values_done : channel_fits values ≡ true → values_reply k values ≡ Ok tt
   unfolding values_reply
   values_done e = (check_is_done _ _).1 e
 

@@ -10,7 +10,7 @@ use Rattle.rows.specs.declared.Message.{Message}
 use Rattle.rows.specs.declared.Tail.{Tail}
 use Rattle.rows.specs.Rows.{MessageRow, TailRow, message_row, tail_row}
 use Rattle.rows.specs.Lines.{lines_of, message_bits}
-use Rattle.rows.specs.Lent.{received_value, message_shown, tail_shown, tail_in}
+use Rattle.rows.specs.Lent.{received_value, message_shown, message_or_zeros, tail_shown, tail_or_zeros, tail_in}
 use Rattle.rows.specs.laws.Pieces.{front_at}
 use Rattle.sheet.specs.Sheet.{message_at, tail_at, message_values, values_of}
 
@@ -20,7 +20,7 @@ both_tails a b = a.sys ∷ a.par ∷ b.sys ∷ b.par ∷ a.sys2 ∷ a.par2 ∷ b
 
 -- the values of every place, K being k
 unfoldable pub values_to : List ℕ → ℕ → List ℤ
-values_to sheet k = joined (message_values sheet) k ++ both_tails (tail_in sheet k) (tail_in sheet (k + 1))
+values_to sheet k = joined (message_values sheet) k ++ both_tails (tail_or_zeros (tail_in sheet k)) (tail_or_zeros (tail_in sheet (k + 1)))
 
 -- ---- stores one after the other
 
@@ -62,30 +62,30 @@ pub record MessageRead (sheet : List ℕ) (k : ℕ) (m : Message) : Type 0 where
 
 message_shown_lem : (o : Option MessageRow) →
     let m = Option.get_or o (record { to = 0; sys = none; par = none; par2 = none }) in
-    ((message_shown o).to ≡ m.to)
-    × (((message_shown o).sys ∷ (message_shown o).par ∷ (message_shown o).par2 ∷ []) ≡ (received_value m.sys ∷ received_value m.par ∷ received_value m.par2 ∷ []))
+    ((message_or_zeros (message_shown o)).to ≡ m.to)
+    × (((message_or_zeros (message_shown o)).sys ∷ (message_or_zeros (message_shown o)).par ∷ (message_or_zeros (message_shown o)).par2 ∷ []) ≡ (received_value m.sys ∷ received_value m.par ∷ received_value m.par2 ∷ []))
 unfolding message_shown
 message_shown_lem none = (refl, refl)
 message_shown_lem (some m) = (refl, refl)
 
 pub message_read : (sheet line : List ℕ) (k n : ℕ) (m : Message) → length (cut 10 sheet) ≡ n + 4 → k < n →
-    line ≡ get_or (cut 10 sheet) (k + 1) [] → m ≡ message_shown (message_row k line) → MessageRead sheet k m
+    line ≡ get_or (cut 10 sheet) (k + 1) [] → m ≡ message_or_zeros (message_shown (message_row k line)) → MessageRead sheet k m
 unfolding message_at
 message_read sheet line k n m long h e f =
     let row = message_row k (get_or (lines_of sheet) (suc k) []) in
-    let g : m ≡ message_shown row = f ∙ ap (λ (l : List ℕ). message_shown (message_row k l)) (e ∙ row_line sheet k n long (omega arith)) in
+    let g : m ≡ message_or_zeros (message_shown row) = f ∙ ap (λ (l : List ℕ). message_or_zeros (message_shown (message_row k l))) (e ∙ row_line sheet k n long (omega arith)) in
     record { to_is = rw g (message_shown_lem row).0; values_are = rw g (message_shown_lem row).1 }
 
 tail_shown_lem : (o : Option TailRow) →
     let t = Option.get_or o (record { sys = pos 0; par = pos 0; par2 = pos 0; sys2 = pos 0 }) in
-    ((tail_shown o).sys ≡ t.sys) × ((tail_shown o).par ≡ t.par) × ((tail_shown o).par2 ≡ t.par2) × ((tail_shown o).sys2 ≡ t.sys2)
+    ((tail_or_zeros (tail_shown o)).sys ≡ t.sys) × ((tail_or_zeros (tail_shown o)).par ≡ t.par) × ((tail_or_zeros (tail_shown o)).par2 ≡ t.par2) × ((tail_or_zeros (tail_shown o)).sys2 ≡ t.sys2)
 unfolding tail_shown
 tail_shown_lem none = (refl, refl, refl, refl)
 tail_shown_lem (some t) = (refl, refl, refl, refl)
 
 tail_in_lem : (sheet : List ℕ) (j : ℕ) → length (cut 10 sheet) ≡ message_bits sheet + 4 → j < 2 →
-    ((tail_in sheet (message_bits sheet + j)).sys ≡ (tail_at sheet j).sys) × ((tail_in sheet (message_bits sheet + j)).par ≡ (tail_at sheet j).par)
-    × ((tail_in sheet (message_bits sheet + j)).par2 ≡ (tail_at sheet j).par2) × ((tail_in sheet (message_bits sheet + j)).sys2 ≡ (tail_at sheet j).sys2)
+    ((tail_or_zeros (tail_in sheet (message_bits sheet + j))).sys ≡ (tail_at sheet j).sys) × ((tail_or_zeros (tail_in sheet (message_bits sheet + j))).par ≡ (tail_at sheet j).par)
+    × ((tail_or_zeros (tail_in sheet (message_bits sheet + j))).par2 ≡ (tail_at sheet j).par2) × ((tail_or_zeros (tail_in sheet (message_bits sheet + j))).sys2 ≡ (tail_at sheet j).sys2)
 unfolding tail_in tail_at
 tail_in_lem sheet j long h =
     rw (row_line sheet (message_bits sheet + j) (message_bits sheet) long (omega arith))

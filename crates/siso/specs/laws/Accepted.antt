@@ -1,9 +1,8 @@
 -- What a call that passes the checks is, and no other: the pass is within its limits, and every list that was lent has its exact length.
 -- Assumes nothing.
-use Rattle.std.specs.Prelude.{◌≡◌, ◌+◌, ◌*◌, length}
+use Rattle.std.specs.Prelude.{◌≡◌, ◌+◌, ◌*◌, length, Ok}
 use Rattle.std.proofs.Common.{eqb-true, eq-eqb}
 use Rattle.lists.specs.laws.Tests.{and_both, and_true}
-use Rattle.refusal.specs.declared.Reply.TheVariants.{Done}
 use Rattle.refusal.specs.Refusals.{first_of}
 use Rattle.refusal.specs.laws.InTurn.{Each, each_holds, each_done}
 use Rattle.trellis.specs.Table.{table_checks}
@@ -17,7 +16,7 @@ pub record Accepted (c : Call) (l : Lent) : Type 0 where
   pub extrinsics_long : length l.extrinsics ≡ c.sections
   pub work_long : length l.work ≡ (c.sections + 1) * c.table.states
 
-pub accepted : (c : Call) (l : Lent) → first_of (lent_checks c l) ≡ Done → Accepted c l
+pub accepted : (c : Call) (l : Lent) → first_of (lent_checks c l) ≡ Ok tt → Accepted c l
 unfolding lent_checks table_checks Each lists_fit
 accepted c l e =
     let (shape, (branches, (fits, (lists, (channel_small, (apriori_small, end)))))) = each_holds (lent_checks c l) e in
@@ -43,7 +42,7 @@ accepted c l e =
     }
 
 -- and the other way: such a call passes the checks
-pub accepts : (c : Call) (l : Lent) → Accepted c l → first_of (lent_checks c l) ≡ Done
+pub accepts : (c : Call) (l : Lent) → Accepted c l → first_of (lent_checks c l) ≡ Ok tt
 unfolding lent_checks table_checks Each lists_fit
 accepts c l a =
     let p = a.pass in

@@ -1,0 +1,14 @@
+use Rattle.std.proofs.Common.{◌<◌, sym, ◌∙◌, arith, length, get_or, map}
+use Rattle.std.proofs.lemmas.List.{get_or-map}
+use Rattle.frame.proofs.order.interleave.Goals as goal
+use Rattle.frame.proofs.laws.Interleaving.{interleave_filled}
+
+pub returns : goal.returns
+returns g c a b f w xs out h =
+    interleave_filled b c.args.pattern.now (map f c.args.xs.now) c.loop-i.out (omega arith)
+    (record {
+      entry = λ j l.
+          let from = w.below j l in
+          h (get_or c.args.pattern.now j 0) (get_or c.loop-i.out j b) (omega (arith, from)) (c.loop-i.invariant a b j (omega arith) (omega arith) (omega (arith, from)))
+          ∙ sym (get_or-map f c.args.xs.now (get_or c.args.pattern.now j 0) a b (omega (arith, from)));
+    })
