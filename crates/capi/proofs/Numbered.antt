@@ -1,5 +1,6 @@
 -- The numbers that stand for ends, as the code tells them apart.
 -- Assumes nothing.
+use Rattle.capi.specs.laws.Returning.{written_done, written_refused}
 use Rattle.std.specs.Prelude.{◌≡◌, refl, ℕ, zero, suc, ◌≤◌, Some, None}
 use Rattle.std.proofs.Common.{arith}
 use Rattle.trellis.specs.declared.End.TheVariants.{Zero, Open, Ring}
@@ -25,3 +26,6 @@ no_end (suc (suc zero)) h = absurd (omega arith)
 no_end (suc (suc (suc n))) h = refl
 
 pub ruleset ends = (zero_end, open_end, ring_end, no_end)
+
+-- entries written to a list, or refused
+pub ruleset writing = (written_done, written_refused)

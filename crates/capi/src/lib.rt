@@ -227,7 +227,7 @@ pub extern "C" fn turbo_hint(sheet: &[u8], line: &mut u64) -> u32
 }
 
 // Eight entries to a list of eight; any other list is refused and stays as it was.
-#[tactic(auto, using(crate::specs::laws::Returning::written_done, crate::specs::laws::Returning::written_refused), unfolding(refusal::specs::Refusals::told, refusal::specs::Refusals::number_of))]
+#[tactic(auto, using(crate::proofs::Numbered::writing), unfolding(refusal::specs::Refusals::told, refusal::specs::Refusals::number_of))]
 fn write(entries: [u8; 8], list: &mut [u8]) -> Reply
     ensures { returned (number_of result) list.new ≡ written entries list.old }
 {

@@ -115,7 +115,12 @@ impl<'a> Branches<'a> {
     {
         let bits = message.bits.len();
         let mut interleaved = blank();
-        frame::interleave(pattern, message.bits, &mut interleaved[..bits], |bit| bit);
+        frame::interleave(
+            pattern,
+            message.bits,
+            &mut interleaved[..bits],
+            &frame::Same,
+        );
         let inputs = Inputs {
             bits: &interleaved[..bits],
         };

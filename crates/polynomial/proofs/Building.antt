@@ -1,5 +1,7 @@
 -- What the builder of a pattern goes by once its sizes are checked: a call that is refused, and one that is not.
 -- Assumes nothing.
+use Rattle.lists.specs.laws.Stores.{filled_none, filled_more, filled_all}
+use Rattle.refusal.specs.laws.Passing.{check_passes, check_alone}
 use Rattle.std.specs.Prelude.{◌≡◌, List, ℕ, length, true, false, Ok, Err}
 use Rattle.std.specs.Result.{IsErrAnd}
 use Rattle.std.proofs.Common.{sym}
@@ -24,3 +26,9 @@ module _ (c : PatternCall) (pattern : List ℕ) where
 
     pub done : {made : List ℕ} → true ≡ permutes c.bits (entries c) → made ≡ entries c → pattern_result_of (Ok tt) made ≡ pattern_built c pattern
     done e is = built_done c pattern (sym h) (sym e) is
+
+-- a list filled from its start
+pub ruleset filling = (filled_none, filled_more, filled_all)
+
+-- checks one after another
+pub ruleset in_turn = (check_passes, check_alone)

@@ -32,7 +32,7 @@ impl Polynomial {
     }
 
     // All K entries.
-    #[tactic(auto, using(lists::specs::laws::Stores::filled_none, lists::specs::laws::Stores::filled_more, lists::specs::laws::Stores::filled_all), unfolding(crate::specs::Polynomial::entries))]
+    #[tactic(auto, using(crate::proofs::Building::filling), unfolding(crate::specs::Polynomial::entries))]
     fn fill(self, pattern: &mut [u32])
         requires { length pattern.old ≡ self.bits }
         ensures { pattern.new ≡ entries (call_of self) }
@@ -62,7 +62,7 @@ fn fits(bits: usize, f1: usize, f2: usize) -> bool
 }
 
 // 15, 4, then 5.
-#[tactic(auto, using(refusal::specs::laws::Passing::check_passes, refusal::specs::laws::Passing::check_alone), unfolding(crate::specs::Polynomial::size_checks, crate::specs::Polynomial::bits_fit))]
+#[tactic(auto, using(crate::proofs::Building::in_turn), unfolding(crate::specs::Polynomial::size_checks, crate::specs::Polynomial::bits_fit))]
 fn sizes_reply(bits: usize, f1: usize, f2: usize, long: usize) -> Reply
     ensures { result ≡ first_of (size_checks (pattern_call_of bits f1 f2) long) }
 {

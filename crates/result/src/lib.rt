@@ -4,9 +4,22 @@
 ghost use Rattle.std.specs.Prelude.{◌&&◌, ◌≡◌, eqb, pos, length};
 ghost use Rattle.frame.specs.Interleaver.{deinterleave};
 ghost use Rattle.frame.specs.laws.Interleaving.{Permutes};
+ghost use Rattle.soft.specs.Soft.{decided};
 ghost use Rattle.result.specs.Result.{all_free, conclude_call_of, conclude_lent_of, conclude_result_of, conclude as concluded};
 
 use refusal::{Refusal, Reply};
+
+// A margin is handed on as its bit.
+#[derive(Clone, Copy)]
+struct Bits;
+
+impl frame::Hand<i32, u8> for Bits {
+    ghost handed = { decided };
+
+    fn hand(&self, entry: i32) -> u8 {
+        soft::decided(entry)
+    }
+}
 
 // out[pattern[i]] is xs[i].
 fn in_message_order(pattern: &[u32], xs: &[i32], out: &mut [i32])
@@ -15,7 +28,7 @@ fn in_message_order(pattern: &[u32], xs: &[i32], out: &mut [i32])
     requires out_len { length out.old ≡ length pattern.now }
     ensures { out.new ≡ deinterleave (pos 0) pattern.now xs.now }
 {
-    frame::deinterleave(pattern, xs, out, |x| x);
+    frame::deinterleave(pattern, xs, out, &frame::Same);
 }
 
 // Every mark says free.
@@ -85,7 +98,7 @@ pub fn conclude(
     if !all_free(marks2) {
         return Err(Refusal::ForcedPosition);
     }
-    frame::deinterleave(pattern, margins2, bits, soft::decided);
+    frame::deinterleave(pattern, margins2, bits, &Bits);
     in_message_order(pattern, margins2, margins);
     in_message_order(pattern, extrinsics2, extrinsics);
     Ok(())

@@ -1,5 +1,6 @@
 -- What writing the values goes by once the call is checked: a call that is refused, and one that is not.
 -- Assumes nothing.
+use Rattle.refusal.specs.laws.Passing.{check_passes, check_alone}
 use Rattle.std.specs.Prelude.{◌≡◌, List, Float, ℤ, length, map, Ok, Err}
 use Rattle.std.specs.Result.{IsErrAnd}
 use Rattle.std.proofs.Common.{sym}
@@ -23,3 +24,6 @@ module _ (s : Setting) (samples : List Float) (values : List ℤ) where
 
     pub done : {made : List ℤ} → made ≡ map (λ x. nearest_value ((f *ᶠ s.scale) *ᶠ x)) samples → sample_result_of (Ok tt) made ≡ sample_values s samples values
     done e = Calls.done s samples values (sym h) (rw is at e)
+
+-- checks one after another
+pub ruleset in_turn = (check_passes, check_alone)

@@ -77,7 +77,7 @@ fn all_finite(samples: &[f32]) -> bool
 }
 
 // 5, 17, then 18.
-#[tactic(auto, using(refusal::specs::laws::Passing::check_passes, refusal::specs::laws::Passing::check_alone), unfolding(crate::specs::Samples::sample_checks, crate::specs::Samples::samples_fit))]
+#[tactic(auto, using(crate::proofs::Writing::in_turn), unfolding(crate::specs::Samples::sample_checks, crate::specs::Samples::samples_fit))]
 fn sample_reply(setting: Setting, samples: &[f32], long: usize) -> Reply
     ensures { result ≡ first_of (sample_checks setting samples.now long) }
 {

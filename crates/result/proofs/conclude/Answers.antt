@@ -47,7 +47,7 @@ in_message_order-requires-2-clause-permutes c = pattern_permutes _ c.if-not-perm
 pub returns : goal.returns
 unfolding conclude_checks conclude_settled after first_of
 returns c =
-    let bits = c.deinterleave.ensures (pos 0) 0 decided (pattern_permutes _ c.if-not-permutes.ensures) (search rules) (search rules) (λ i y l p. search rules) in
+    let bits = c.deinterleave.ensures (pos 0) 0 (pattern_permutes _ c.if-not-permutes.ensures) (search rules) (search rules) in
     let free = and_true (sym c.if-not-all_free.ensures) (sym c.if-not-all_free-2.ensures) in
     rw (bits, c.in_message_order.ensures, c.in_message_order-2.ensures)
     (concluded_done _ _

@@ -1,4 +1,4 @@
-use Rattle.std.proofs.Common.{rules, arith, ℕ, length}
+use Rattle.std.proofs.Common.{arith, ℕ, length}
 use Rattle.std.proofs.lemmas.List.{map-id}
 use Rattle.lists.specs.laws.Lending.{Back, front_back}
 use Rattle.coder.specs.laws.Bits.{bits_interleaved}
@@ -8,7 +8,7 @@ pub invariant_of-inputs : goal.invariant_of-inputs
 invariant_of-inputs c =
     let k = length c.args.message.now.bits.now in
     let back : Back k c.blank-interleaved.result c.interleave.new.out = front_back k c.blank-interleaved.result (omega arith) c.interleave.auto.out in
-    let order = rw (map-id c.args.message.now.bits.now) at (c.interleave.ensures 0 0 (λ (x : ℕ). x) (rw (← c.requires.permutes.size) at c.requires.permutes) (omega (arith, c.requires.permutes.size)) (omega (arith, c.requires.permutes.size)) (λ i y l p. search rules)) in
+    let order = rw (map-id c.args.message.now.bits.now) at (c.interleave.ensures 0 0 (rw (← c.requires.permutes.size) at c.requires.permutes) (omega (arith, c.requires.permutes.size)) (omega (arith, c.requires.permutes.size))) in
     let bits = bits_interleaved c.requires.permutes c.args.message.now.are_bits in
     record { are_bits = rw (back.is, order, bits.size) bits }
 
@@ -16,5 +16,5 @@ pub returns : goal.returns
 returns c =
     let k = length c.args.message.now.bits.now in
     let back : Back k c.blank-interleaved.result c.interleave.new.out = front_back k c.blank-interleaved.result (omega arith) c.interleave.auto.out in
-    let order = rw (map-id c.args.message.now.bits.now) at (c.interleave.ensures 0 0 (λ (x : ℕ). x) (rw (← c.requires.permutes.size) at c.requires.permutes) (omega (arith, c.requires.permutes.size)) (omega (arith, c.requires.permutes.size)) (λ i y l p. search rules)) in
+    let order = rw (map-id c.args.message.now.bits.now) at (c.interleave.ensures 0 0 (rw (← c.requires.permutes.size) at c.requires.permutes) (omega (arith, c.requires.permutes.size)) (omega (arith, c.requires.permutes.size))) in
     rw (back.is, order) at c.code.ensures
