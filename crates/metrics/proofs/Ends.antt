@@ -1,10 +1,8 @@
 -- What the functions of rows go by: a row of one state alone, one of reserved words and one of zeros, and the ends' rows by the end.
 -- Assumes nothing.
-use Rattle.std.specs.Prelude.{◌≡◌, refl, Bool, ◌||◌, ◌+◌, ◌≤◌, ◌<◌, ℕ, zero, suc, ℤ, pos, replicate, set}
-use Rattle.std.proofs.Common.{sym, ap, ◌∙◌, arith, eq-eqb, ne_eqb, get_or-set_same, get_or-set_other}
-use Rattle.std.proofs.Math.Bool.{or_assoc, or-false}
+use Rattle.std.specs.Prelude.{◌≡◌, refl, ◌||◌, ◌+◌, ◌≤◌, ◌<◌, ℕ, zero, suc, ℤ, pos, replicate, set}
+use Rattle.std.proofs.Common.{false, ap, add-one, ◌∙◌, arith, eq-eqb, ne_eqb, get_or-set_same, get_or-set_other}
 use Rattle.std.proofs.Math.Option.{Option, some}
-use Rattle.std.specs.List.{list_any, range_with_len}
 use Rattle.std.proofs.lemmas.List.{length-replicate}
 use native.Mathlib.Decide.{ℕ_discrete}
 use Rattle.lists.specs.Lists.{found}
@@ -69,16 +67,10 @@ pub ruleset endings = (ending_zero, ending_open, ending_ring)
 
 -- ---- whether paths arrive
 
--- some of the first n metrics is there, as a search from the first on tells
-pub some_there : (f : ℕ → Option ℤ) (n : ℕ) → list_any (λ s. found (f s)) (range_with_len 0 n) ≡ found (over n f)
+-- some of the first n metrics is there
+pub found_zero : (f : ℕ → Option ℤ) → found (over 0 f) ≡ false
 unfolding found
-some_there f zero = rw (over_zero f)
-some_there f (suc n) =
-    one_more (λ s. found (f s)) 0 n n (omega arith)
-    ∙ ap (λ b. b || found (f n)) (some_there f n)
-    ∙ sym (found_larger (over n f) (f n))
-    ∙ ap found (sym (over_suc n f))
-  where
-    one_more : (p : ℕ → Bool) (a n j : ℕ) → a + n ≡ j → list_any p (range_with_len a (suc n)) ≡ (list_any p (range_with_len a n) || p j)
-    one_more p a zero j e = let f : a ≡ j = omega arith in rw (f, or-false)
-    one_more p a (suc n) j e = ap (λ b. p a || b) (one_more p (a + 1) n j (omega arith)) ∙ sym (or_assoc (p a) _ (p j))
+found_zero f = rw (over_zero f)
+
+pub found_more : (f : ℕ → Option ℤ) (n : ℕ) → found (over (n + 1) f) ≡ (found (over n f) || found (f n))
+found_more f n = rw add-one (ap found (over_suc n f) ∙ found_larger (over n f) (f n))

@@ -1,11 +1,11 @@
 -- What the tests of a call of `conclude` say of its lists.
 -- Assumes nothing.
-use Rattle.std.specs.Prelude.{◌≡◌, ◌↔◌, refl, IsTrue, Bool, true, false, ◌&&◌, List, ℕ, eqb, leb, length}
+use Rattle.std.specs.Prelude.{◌≡◌, ◌↔◌, refl, IsTrue, Bool, true, false, ◌&&◌, List, ℕ, ℤ, pos, map, eqb, leb, length}
 use Rattle.std.specs.List.{All}
-use Rattle.std.proofs.Common.{sym, eqb-true, eq-eqb}
+use Rattle.std.proofs.Common.{sym, eqb-true, eq-eqb, map-id}
 use Rattle.lists.specs.laws.Every.{every_at, at_every}
 use Rattle.lists.specs.laws.Tests.{and_right, and_true}
-use Rattle.frame.specs.Interleaver.{permutes}
+use Rattle.frame.specs.Interleaver.{permutes, deinterleave}
 use Rattle.frame.specs.laws.Interleaving.{Permutes}
 use Rattle.frame.proofs.laws.Interleaving.{permuting}
 use Rattle.result.specs.Result.{ConcludeCall, ConcludeLent, conclude_lists_fit, all_free}
@@ -28,3 +28,9 @@ module _ (c : ConcludeCall) (l : ConcludeLent)
   pub fits : conclude_lists_fit c l ≡ true
   unfolding conclude_lists_fit
   fits = and_true (sym passes) (sym results)
+
+-- entries that are put in their places as they are
+pub in_place : (pattern : List ℕ) (xs was out : List ℤ)
+    → ((a b : ℤ) → Permutes (length pattern) pattern → length xs ≡ length pattern → length was ≡ length pattern → out ≡ deinterleave b pattern (map (λ (e : ℤ). e) xs))
+    → Permutes (length pattern) pattern → length xs ≡ length pattern → length was ≡ length pattern → out ≡ deinterleave (pos 0) pattern xs
+in_place pattern xs was out h p l o = rw (map-id xs) at (h (pos 0) (pos 0) p l o)

@@ -1,7 +1,9 @@
 -- The library's words for what a chain gives, as the definitions' own.
 -- Assumes nothing.
-use Rattle.std.specs.Prelude.{◌≡◌, refl, Bool, cond, ◌&&◌, List, [], ◌∷◌, ℕ, ◌+◌, ◌≤◌, eqb, ltb, nat_eq, length, Some, None}
-use Rattle.std.specs.List.{list_all, position_or_len}
+use Rattle.std.specs.Prelude.{◌≡◌, refl, Bool, cond, ◌&&◌, List, [], ◌∷◌, ℕ, ◌+◌, ◌-◌, ◌≤◌, eqb, ltb, nat_eq, length, take, drop, Some, None}
+use Rattle.std.specs.List.{list_all, position_or_len, starts_with}
+use Rattle.std.proofs.Math.Seq.{take-length}
+use Rattle.std.proofs.lemmas.List.{take_all}
 use Rattle.std.specs.Option.{unwrap_or}
 use Rattle.std.specs.Cmp.Lexicographic.{pointwise}
 use Rattle.std.proofs.Common.{ap, arith, eq-eqb, ne_eqb, lt-ltb, le-ltb}
@@ -9,6 +11,7 @@ use Rattle.std.proofs.lemmas.List.Recursion.{is_position_or_len}
 use Rattle.std.proofs.Math.Decide.{ℕ_discrete, dec_lt}
 use Rattle.lists.specs.Lists.{every}
 use Rattle.text.specs.Text.{same}
+use Rattle.text.specs.laws.Comparing.{same_lengths}
 use Rattle.text.specs.laws.Cutting.{first, first_here, first_past, first_nothing}
 
 pub every_all : {A : Type 0} (p : A → Bool) (xs : List A) → list_all p xs ≡ every p xs
@@ -22,6 +25,16 @@ same_pointwise [] [] = refl
 same_pointwise [] (y ∷ ys) = refl
 same_pointwise (x ∷ xs) [] = refl
 same_pointwise (x ∷ xs) (y ∷ ys) = ap (λ b. eqb x y && b) (same_pointwise xs ys)
+
+-- so compared from their starts, however that start is told, and where the one of two of a length begins with the other
+pub same_from : (xs ys : List ℕ) (i j : ℕ) → i ≡ 0 → j ≡ 0 → pointwise nat_eq (take (length xs - i) (drop i xs)) (take (length ys - j) (drop j ys)) ≡ same xs ys
+same_from xs ys i j e f = rw (e, f) (rw (take_all (length xs - 0) xs (omega arith), take_all (length ys - 0) ys (omega arith)) (same_pointwise xs ys))
+
+pub same_starts : (xs ys : List ℕ) → length xs ≡ length ys → starts_with nat_eq ys xs ≡ same xs ys
+same_starts xs ys e = rw (e, take-length ys) (same_pointwise xs ys)
+
+-- what a comparison goes by, in whichever of these forms it is written
+pub ruleset comparisons = (same_pointwise, same_from, same_starts, same_lengths)
 
 -- the first piece ends at the first such byte
 pub first_position : (b : ℕ) (xs : List ℕ) → length (first b xs) ≡ position_or_len (λ x. eqb x b) xs

@@ -3,7 +3,7 @@ ghost use Rattle.std.specs.Prelude.{[], ◌≡◌, ◌+◌, length, get_or, drop
 ghost use Rattle.text.specs.Text.{cut, same as same_text};
 
 // Whether two texts are the same, byte by byte. Both are only read.
-#[tactic(auto, using(crate::proofs::Chains::same_pointwise))]
+#[tactic(auto, using(crate::proofs::Chains::comparisons))]
 pub fn same(a: &[u8], b: &[u8]) -> bool
     ensures { result ≡ same_text a.now b.now }
 {

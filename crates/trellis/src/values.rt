@@ -16,6 +16,7 @@ fn outside(xs: &[i16], limit: u32) -> Option<usize>
 }
 
 // That index, or the list's length. It is looked for only where a test of all values has failed.
+#[tactic(auto, using(crate::proofs::Looking::places))]
 fn first_outside(xs: &[i16], limit: u32) -> usize
     ensures { result ≡ first_outside limit xs.now }
 {

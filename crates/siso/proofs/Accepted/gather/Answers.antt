@@ -68,7 +68,7 @@ gather_at-requires-clause-within c =
     let inside : k < c.pass.inside.format.sections = omega arith in
     let told-sum = rw (to_z-of_z (apriori_read p k), to_z-of_z (channel_read p k)) at c.intrinsic-told.ensures in
     let (y-small, a_small) = values_small p k in
-    rw (to_z-of_z {w = w32} (fits_of c.intrinsic-told.type_inv), told-sum) (told_within c.is_systematic-sys.result a_small y-small)
+    rw (to_z-of_z {w = w32} (fits_of c.intrinsic-told.type_inv), told-sum) (told_within _ a_small y-small)
 
 pub gather_at-requires-clause-tellable : goal.gather_at-requires-clause-tellable
 unfolding apriori_at
