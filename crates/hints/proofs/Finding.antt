@@ -3,14 +3,15 @@
 use Rattle.std.specs.Prelude.{◌≡◌, refl, true, false, cond, List, [], ◌∷◌, ℕ, suc, ◌+◌, ◌-◌, ◌≤◌, ◌<◌, eqb, nat_eq, length, get_or, take, drop, count_by}
 use Rattle.std.specs.List.{starts_with as front_is}
 use Rattle.std.specs.Cmp.Lexicographic.{pointwise}
-use Rattle.std.proofs.Common.{sym, ap, ◌∙◌, arith, eq-eqb, drop-drop, take_all, length-drop, ne_eqb, lt-ltb, le-ltb}
-use Rattle.std.proofs.Math.Bool.{and-false, and-true, or-true}
+use Rattle.std.proofs.Common.{sym, ap, ◌∙◌, arith, eq-eqb, ne_eqb, lt-ltb, le-ltb}
+use Rattle.std.proofs.Math.ListN.{get_or-eq_default}
+use Rattle.std.proofs.Math.Bool.{and-false, or-true}
 use Rattle.std.proofs.Math.Decide.{ℕ_discrete}
 use Rattle.std.proofs.lemmas.List.Recursion.{is_count_by}
 use Rattle.lists.specs.Lists.{count}
-use Rattle.text.specs.Text.{line_feed, space, same}
+use Rattle.text.specs.Text.{line_feed, same}
 use Rattle.hints.specs.Hints.{hint, line_of, starts_with, is_wide, byte_at, space_at, last_line, line_hint, hint_of}
-use Rattle.hints.specs.laws.Seeing.{some_not_empty, none_empty}
+use Rattle.hints.specs.laws.Seeing.{some_not_empty, none_empty, space_here, space_past}
 
 -- ---- two bytes a character, by the first two
 
@@ -98,19 +99,19 @@ pub feeds_counted : (text : List ℕ) → count_by (λ b. eqb b 10) text ≡ cou
 unfolding count
 feeds_counted text = sym (is_count_by (count (λ b. eqb b line_feed)) (λ b. eqb b 10) refl (λ x xs. ap (λ n. cond (eqb x 10) n (count (λ b. eqb b line_feed) xs)) (omega arith)) text)
 
-space_step : (xs : List ℕ) → 1 ≤ length xs → space_at xs ≡ cond (front_is nat_eq xs (space ∷ line_feed ∷ [])) 0 (suc (space_at (drop 1 xs)))
-unfolding space_at
-space_step [] h = absurd (omega arith)
-space_step (x ∷ []) h = rw (and-false (eqb x 32), and-false (eqb 32 x)) refl
-space_step (x ∷ y ∷ ys) h = rw (eqb_swap x 32, eqb_swap y 10, and-true (eqb 10 y)) refl
-
 -- from an index on: a space and a line feed, or none there
-pub space_turn : (text : List ℕ) (i : ℕ) → i < length text
-    → space_at (drop i text) ≡ cond (front_is nat_eq (take (length text - i) (drop i text)) (space ∷ line_feed ∷ [])) 0 (suc (space_at (drop (i + 1) text)))
-space_turn text i h =
-    let more : drop 1 (drop i text) ≡ drop (i + 1) text = drop-drop 1 i text in
-    let all : take (length text - i) (drop i text) ≡ drop i text = take_all (length text - i) (drop i text) (omega (arith, length-drop i text)) in
-    rw (← more, all) (space_step (drop i text) (omega (arith, length-drop i text)))
+module _ (text : List ℕ) (i : ℕ) (h : i < length text) where
+  pub space_hit : get_or text i 0 ≡ 32 → get_or text (i + 1) 0 ≡ 10 → space_at (drop i text) ≡ 0
+  space_hit e f = space_here text i h (rw (e, f))
+
+  pub no_space : (get_or text i 0 ≡ 32 → ⊥) → space_at (drop i text) ≡ suc (space_at (drop (i + 1) text))
+  no_space d = space_past text i h (rw (ne_eqb _ 32 d))
+
+  pub no_feed : (get_or text (i + 1) 0 ≡ 10 → ⊥) → space_at (drop i text) ≡ suc (space_at (drop (i + 1) text))
+  no_feed d = space_past text i h (rw (ne_eqb _ 10 d) (and-false (eqb (get_or text i 0) 32)))
+
+  pub no_byte : length text ≤ i + 1 → space_at (drop i text) ≡ suc (space_at (drop (i + 1) text))
+  no_byte l = no_feed (λ e. let z = get_or-eq_default text 0 {n = i + 1} l in omega arith)
 
 -- ---- the last line
 
