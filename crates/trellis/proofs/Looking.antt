@@ -1,6 +1,6 @@
 -- What a search for the first value outside a limit tells: its index, or the list's length.
 -- Assumes nothing.
-use Rattle.std.specs.Prelude.{◌≡◌, ◌≤◌, List, ℕ, ℤ, Some, None, not, pos, length}
+use Rattle.std.specs.Prelude.{◌≡◌, List, ℕ, ℤ, Some, None, not, pos, length}
 use Rattle.std.specs.List.{position}
 use Rattle.std.specs.Option.{unwrap_or}
 use Rattle.std.proofs.Common.{◌∙◌, sym, ap, arith}
