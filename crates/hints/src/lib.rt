@@ -43,8 +43,8 @@ fn line_of(text: &[u8], at: usize) -> usize
     text[..at].iter().filter(|b| **b == b'\n').count() + 1
 }
 
-// The index of the first space that stands before a line feed; the length where there is none. Byte by byte: with `text[i..].starts_with(b" \n")` a text of
-// spaces took 1.2 to 1.3 times as long.
+// The index of the first space that stands before a line feed; the length where there is none. By the index: with `text[i..].starts_with(b" \n")` the hint to a
+// text took 1.06 to 1.2 times as long.
 fn space_at(text: &[u8]) -> usize
     ensures { result ≡ space_at text.now }
 {
