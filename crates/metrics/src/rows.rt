@@ -65,8 +65,8 @@ pub fn either(a: bool, b: bool) -> bool
     a | b
 }
 
-// Whether two rows have a metric of one state. All are looked at: with `(0..n).any`, which stops at the first, a pass of siso over a ring of 16 states took 1.3
-// times as long.
+// Whether two rows have a metric of one state. All are looked at: with `(0..n).any`, which stops at the first, a pass of siso took up to 1.3 times as long, by
+// where its code came to lie.
 #[tactic(auto, using(crate::proofs::Ends::found_zero, crate::proofs::Ends::found_more))]
 pub fn arrived(m: [i32; 16], last: [i32; 16], states: usize) -> bool
     ensures { result ≡ found (over (min states 16) (λ s. sum (row m s) (row last s))) }
